@@ -1,0 +1,6 @@
+pub mod Exit
+pub mod Plan
+pub mod Follows
+pub mod Complete
+pub mod Order
+pub mod Serves
