@@ -1,0 +1,4 @@
+pub mod FirstForm
+pub mod FirstPieces
+pub mod FirstViews
+pub mod FirstUnits

@@ -1,0 +1,6 @@
+pub mod Words
+pub mod CommandView
+pub mod FirstUrl
+pub mod Resolve
+pub mod AnswerView
+pub mod UrlView

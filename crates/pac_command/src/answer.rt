@@ -1,0 +1,63 @@
+// The answer of a command, before it is written.
+ghost use Rattle.std.specs.Prelude.{◌++◌, ◌∷◌, []};
+ghost use Rattle.pac_plan.specs.Plan.{line};
+ghost use Rattle.pac_plan.specs.Follows.{IsUnlessMemory, Ends};
+ghost use Rattle.pac_command.specs.Resolve.{reported};
+ghost use Rattle.pac_command.specs.AnswerView.{made};
+
+use crate::Status;
+use pac_ports::FilesAnswer;
+use std::alloc::Global;
+use utf16_text::{Memory, Text};
+
+/// A status with the text that is to be written.
+#[derive(Drop)]
+pub(crate) struct Answer {
+    pub(crate) status: Status,
+    pub(crate) text: Vec<u8>,
+}
+
+/// A status with a line of three pieces.
+pub(crate) fn line(
+    alloc: Global,
+    status: Status,
+    first: &str,
+    second: &str,
+    third: &str,
+) -> Result<Answer, Memory>
+    ensures { IsUnlessMemory (record { status = status; text = first.now ++ second.now ++ third.now ++ 10 ∷ [] }) (made result) }
+{
+    let mut text = Vec::new(alloc);
+    text.extend_from_slice(first.as_bytes())?;
+    text.extend_from_slice(second.as_bytes())?;
+    text.extend_from_slice(third.as_bytes())?;
+    text.push(b'\n')?;
+    Ok(Answer { status, text })
+}
+
+/// The answer where a file of this kind was not read.
+pub(crate) fn not_read(alloc: Global, kind: &str, why: FilesAnswer) -> Result<Answer, Memory>
+    ensures { Ends kind.now why (made result) }
+{
+    match why {
+        FilesAnswer::Failed => line(alloc, Status::ReadFault, "fault read ", kind, ""),
+        FilesAnswer::TooLong => line(alloc, Status::Refused, "refused ", kind, " TooLong"),
+        FilesAnswer::Memory => Err(Memory),
+    }
+}
+
+/// The report of one URL and its result, after one run.
+pub(crate) fn report(alloc: Global, url: &Text, outcome: &Text) -> Result<Answer, Memory>
+    ensures { IsUnlessMemory (reported url.now outcome.now) (made result) }
+{
+    let mut text = Vec::new(alloc);
+    text.extend_from_slice("url 1 ".as_bytes())?;
+    url.escape_into(alloc, &mut text, false)?;
+    text.extend_from_slice("\nresult ".as_bytes())?;
+    outcome.escape_into(alloc, &mut text, false)?;
+    text.extend_from_slice("\nruns 1\n".as_bytes())?;
+    Ok(Answer {
+        status: Status::Good,
+        text,
+    })
+}

@@ -1,0 +1,17 @@
+//! The commands and the program's one top call, `pac`.
+//!
+//! Each command is a plan of pac_plan, in `specs/`, and code that follows it. It stands on pac_plan and pac_ports for the
+//! outside, on js_interp for the runs of scripts, and on utf16_text.
+#![tactic(auto)]
+
+mod answer;
+mod first_url;
+mod resolve;
+mod top;
+mod words;
+
+pub use pac_plan::Status;
+pub use top::pac;
+
+#[cfg(test)]
+mod tests;

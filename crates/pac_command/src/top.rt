@@ -1,0 +1,77 @@
+// The top call.
+ghost use Rattle.std.specs.Prelude.{Some, map, string_bytes};
+ghost use Rattle.pac_plan.specs.Plan.{Outside};
+ghost use Rattle.pac_plan.specs.Follows.{FollowsProgram, Gives};
+ghost use Rattle.pac_plan.specs.Serves.{Serves};
+ghost use Rattle.pac_command.specs.Words.{command_of};
+ghost use Rattle.pac_command.specs.Resolve.{no_talks, program_of};
+ghost use Rattle.pac_command.specs.AnswerView.{answer_view, made};
+
+use crate::Status;
+use crate::answer::{Answer, line};
+use crate::resolve::resolve;
+use crate::words::read_words;
+use pac_ports::{Clock, Dice, Files, Link, Sink, put};
+use std::alloc::Global;
+use std::sync::ledger::Ledger;
+use step_counter::Steps;
+use utf16_text::Memory;
+
+/// Does what the words after the program's name ask for, writes the answer to `out` and returns its status.
+///
+/// `runs` counts the runs of the script. The link, the clock and the dice aren't touched by any command yet.
+#[allow(clippy::too_many_arguments)]
+pub fn pac<F: Files, K: Sink, N: Link, C: Clock, D: Dice, L: Ledger>(
+    alloc: Global,
+    words: &Vec<String>,
+    files: &mut F,
+    out: &mut K,
+    link: &mut N,
+    clock: &mut C,
+    dice: &mut D,
+    runs: &mut Steps<L>,
+) -> Status
+    // The plan of the words is followed and its answer written, with the order and completeness of every plan.
+    ensures { Serves no_talks (program_of (command_of (map string_bytes words.now.items)))
+        (record { files = F.state files.old; link = N.state link.old; clock = C.told clock.old; dice = D.told dice.old; runs = runs.old })
+        (record { files = F.state files.new; link = N.state link.new; clock = C.told clock.new; dice = D.told dice.new; runs = runs.new })
+        (K.state out.old) (K.state out.new) result }
+{
+    match answer_to(alloc, words, files, runs) {
+        Ok(answer) => give(out, &answer),
+        Err(_) => Status::Memory,
+    }
+}
+
+// What the words and the files come to.
+fn answer_to<F: Files, L: Ledger>(
+    alloc: Global,
+    words: &[String],
+    files: &mut F,
+    runs: &mut Steps<L>,
+) -> Result<Answer, Memory>
+    ensures { (o : Outside) → FollowsProgram no_talks (program_of (command_of (map string_bytes words.now)))
+        (record o { files = F.state files.old; runs = runs.old })
+        (record o { files = F.state files.new; runs = runs.new }) (made result) }
+{
+    match read_words(words) {
+        Some(words) => resolve(alloc, words.script, words.url, files, runs),
+        None => line(
+            alloc,
+            Status::Usage,
+            "usage: pac resolve|map|check|ask|generate ARGUMENTS",
+            "",
+            "",
+        ),
+    }
+}
+
+// Writes the answer.
+fn give<K: Sink>(out: &mut K, answer: &Answer) -> Status
+    ensures { Gives (Some (answer_view answer.now)) result (K.state out.old) (K.state out.new) }
+{
+    match put(out, &answer.text) {
+        Ok(()) => answer.status,
+        Err(_) => Status::WriteFault,
+    }
+}

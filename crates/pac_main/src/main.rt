@@ -1,0 +1,65 @@
+//! The program `pac`: makes the real outside, does what the words ask for and exits with the status.
+//!
+//! All that matters is `pac` of pac_command; here stand the adapters to real files and standard output, a few lines each,
+//! which are the trusted edge: that they do what they say is the machine's matter.
+#![tactic(auto)]
+
+mod disk_files;
+mod standard_output;
+
+ghost use Rattle.std.specs.Prelude.{◌≡◌, ◌<◌};
+
+use disk_files::DiskFiles;
+use pac_command::{Status, pac};
+use pac_ports::{ClosedLink, FixedClock, ListDice};
+use standard_output::StandardOutput;
+use std::marker::Brand;
+use std::process::ExitCode;
+use std::sync::ledger::{Blank, Ledger};
+use std::{env, io};
+use step_counter::Steps;
+
+fn main(rt: HostRuntime) -> ExitCode {
+    let status = match words_of(&rt) {
+        Ok(words) => called::<Brand, HostRuntime>(&rt, &words, Blank::new(1)),
+        Err(error) if error.kind() == io::ErrorKind::OutOfMemory => Status::Memory,
+        // A word that isn't UTF-8 is read by no command, and neither are no words at all.
+        Err(_) => called::<Brand, HostRuntime>(&rt, &Vec::new(rt.alloc()), Blank::new(1)),
+    };
+    ExitCode::from(status.number())
+}
+
+// The words after the program's name.
+fn words_of<R: env::Env + AllocGlobal>(rt: &R) -> io::Result<Vec<String>> {
+    let mut words = env::args(rt)?;
+    let _program = words.next();
+    Ok(words.collect(rt.alloc())?)
+}
+
+// The top call over the real outside, with a counter of a new ledger.
+fn called<L: Ledger, R: std::rt::Files + Print + AllocGlobal + Drop>(
+    rt: &R,
+    words: &Vec<String>,
+    blank: Blank,
+) -> Status
+    requires name { blank.name ≡ L.name }
+    requires parts { blank.parts ≡ L.parts }
+    requires some { 0 < blank.parts }
+{
+    let mut files = DiskFiles::new(rt);
+    let mut out = StandardOutput::new(rt);
+    let mut link = ClosedLink::new();
+    let mut clock = FixedClock::new(0);
+    let mut dice = ListDice::new(Vec::new(rt.alloc()));
+    let mut runs = Steps::<L>::new(blank);
+    pac(
+        rt.alloc(),
+        words,
+        &mut files,
+        &mut out,
+        &mut link,
+        &mut clock,
+        &mut dice,
+        &mut runs,
+    )
+}

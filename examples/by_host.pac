@@ -1,0 +1,1 @@
+function FindProxyForURL(url, host) { if (host == "intranet.example.com") return "DIRECT"; if (host == "www.example.org") return "PROXY proxy.example.com:8080; DIRECT"; return "PROXY proxy.example.com:3128"; }
