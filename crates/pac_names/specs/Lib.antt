@@ -1,0 +1,4 @@
+pub mod Ascii
+pub mod Comparing
+pub mod Names
+pub mod Quads
