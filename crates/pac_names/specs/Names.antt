@@ -2,7 +2,8 @@
 use Rattle.std.specs.Prelude.{ℕ, ◌-◌, List, Bool, ◌&&◌, ◌||◌, ◌==◌, nat_le, length, take, map, slice_index, is_none, if◌then◌else◌, Option, Some, None}
 use Rattle.std.specs.List.{list_all}
 use Rattle.std.specs.Char.{is_ascii_digit, is_ascii_lowercase, to_ascii_lowercase}
-use Rattle.pac_names.specs.Quads.{labels_of, groups_of}
+use Rattle.pac_names.specs.Labels.{labels_of}
+use Rattle.pac_names.specs.Quads.{groups_of}
 
 -- a lower-case letter, a digit, `-` (45) or `_` (95)
 abbrev pub is_name_letter : ℕ → Bool

@@ -4,7 +4,7 @@ ghost use Rattle.std.specs.List.{list_all};
 ghost use Rattle.std.specs.Char.{to_ascii_lowercase};
 ghost use Rattle.std.specs.Ordering.{nat_cmp};
 ghost use Rattle.std.specs.Cmp.Lexicographic.{slice_cmp};
-ghost use Rattle.pac_names.specs.Quads.{labels_of};
+ghost use Rattle.pac_names.specs.Labels.{labels_of};
 ghost use Rattle.pac_names.specs.Names.{is_label, is_lookup_name, is_name_letter, lookup_name_of, without_final_dot};
 
 use crate::ascii::short_ascii;
@@ -52,6 +52,8 @@ impl LookupName {
     pub fn bytes(&self) -> &[u8]
         ensures value { result.now ≡ self.now }
         ensures kept { IsTrue (is_lookup_name self.now) }
+        ensures short { length self.now ≤ 253 }
+        ensures labels { IsTrue (list_all is_label (labels_of self.now)) }
     {
         self.bytes.as_slice()
     }

@@ -1,0 +1,4 @@
+pub mod WalkLaws
+pub mod SameLaws
+pub mod WireLaws
+pub mod WriteLaws
