@@ -215,3 +215,8 @@ pub label_ends : (message : List ℕ) (begin at n : ℕ) → part_at message at 
 label_ends message begin at n e same =
     let place : at + 1 + n ≡ at + (n + 1) = omega arith in
     sym (ap behind_of (rest_at_label message begin at n e) ∙ behind-with_label _ (rest_of message begin (at + 1 + n)) ∙ ap (λ (k : ℕ). behind_of (rest_of message begin k)) place) ∙ same
+
+-- the offset behind a name lies in the message, whether it was known before or is known now
+pub within_or : (first : Option ℕ) (n length : ℕ) → IfSome first (λ behind. behind ≤ length) → n ≤ length → IfSome (option_or first (Some n)) (λ behind. behind ≤ length)
+within_or None n length h k = k
+within_or (Some behind) n length h k = h

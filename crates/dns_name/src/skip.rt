@@ -1,12 +1,13 @@
 // Behind a name.
-ghost use Rattle.std.specs.Prelude.{◌≡◌, IfSome};
+ghost use Rattle.std.specs.Prelude.{◌≡◌, ◌≤◌, IfSome, length, max};
 ghost use Rattle.dns_name.specs.Wire.{behind_of, name_at};
 
 use crate::part::{Part, read_part};
 
 /// The offset behind the name at an offset, or nothing where no name stands there.
 pub fn skip_name(message: &[u8], at: usize) -> Option<usize>
-    ensures { result ≡ behind_of (name_at message.now at) }
+    ensures behind { result ≡ behind_of (name_at message.now at) }
+    ensures within { IfSome result (λ behind. behind ≤ length message.now) }
 {
     let mut piece = at;
     let mut at = at;
@@ -37,7 +38,8 @@ pub fn skip_name(message: &[u8], at: usize) -> Option<usize>
 
 /// The offset behind the name at an offset where one is known to stand: its pointers are not followed.
 pub fn name_end(message: &[u8], at: usize) -> usize
-    ensures { IfSome (behind_of (name_at message.now at)) (λ behind. result ≡ behind) }
+    ensures behind { IfSome (behind_of (name_at message.now at)) (λ behind. result ≡ behind) }
+    ensures within { result ≤ max at (length message.now) }
 {
     let mut at = at;
     'parts: loop {

@@ -12,6 +12,7 @@ pub fn write_name(buffer: &mut [u8; 512], at: usize, name: &LookupName) -> usize
     requires { at + 255 ≤ 512 }
     ensures written { buffer.new ≡ overwritten buffer.old at (wire_name name.now) }
     ensures behind { result ≡ at + length (wire_name name.now) }
+    ensures room { result ≤ at + 255 }
     ensures read { name_at buffer.new at ≡ Some (record { labels = labels_of name.now; behind = result }) }
 {
     let mut at = at;

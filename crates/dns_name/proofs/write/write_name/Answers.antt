@@ -1,9 +1,10 @@
-use Rattle.std.proofs.Common.{Option, Bor, List, ℕ, ◌∙◌, ap, subst, arith}
+use Rattle.std.proofs.Common.{length, ◌≡◌, ◌+◌, Option, Bor, List, ℕ, ◌∙◌, ap, subst, arith}
 use Rattle.std.specs.Option.{option_copied}
 use Rattle.pac_names.specs.Labels.{labels_behind, labels_of}
 use Rattle.pac_names.proofs.LabelLaws.{labels_length-labels_of}
-use Rattle.dns_name.proofs.WriteLaws.{IsWrittenSoFar, written_start, written_more, written_end}
-use Rattle.dns_name.proofs.WireLaws.{written_read}
+use Rattle.dns_name.proofs.WriteLaws.{IsWrittenSoFar, written_start, written_more, written_end, end_of_written}
+use Rattle.dns_name.proofs.WireLaws.{written_read, length-wire_name}
+use Rattle.dns_name.specs.Writing.{wire_name}
 use Rattle.dns_name.proofs.write.write_name.Goals as goal
 
 pub labels-init : goal.labels-init
@@ -28,3 +29,11 @@ returns-clause-read c =
     (subst (λ (o : Option (Bor (List ℕ))). IsWrittenSoFar c.args.buffer.now c.labels.buffer c.args.at c.labels.at (labels_of c.args.name.now) (labels_behind (option_copied o))) c.in_default.is
     c.labels.invariant)
     c.bytes.ensures.short c.bytes.ensures.labels
+
+pub returns-clause-room : goal.returns-clause-room
+returns-clause-room c =
+    let end : c.labels.at + 1 ≡ c.args.at + length (wire_name c.args.name.now) =
+    end_of_written c.args.buffer.now c.labels.buffer c.args.name.now c.args.at c.labels.at
+    (subst (λ (o : Option (Bor (List ℕ))). IsWrittenSoFar c.args.buffer.now c.labels.buffer c.args.at c.labels.at (labels_of c.args.name.now) (labels_behind (option_copied o))) c.in_default.is
+    c.labels.invariant) in
+    omega (arith, end, length-wire_name c.args.name.now, c.bytes.ensures.short)

@@ -1,0 +1,46 @@
+-- What the code keeps of a record, by the offsets of its names, as what the record says.
+use Rattle.std.specs.Prelude.{ℕ, List, [], Option, Some, None, IsSome}
+use Rattle.dns_name.specs.Wire.{labels_at}
+use Rattle.dns_message.specs.Record.{Says, Address, Alias, Else, Fact, RecordThere}
+use Rattle.dns_message.specs.declared.record.Data.{Data}
+use Rattle.dns_message.specs.declared.record.Data.TheVariants as kinds
+use Rattle.dns_message.specs.declared.record.Record.{Record}
+
+abbrev pub labels_known : Option (List (List ℕ)) → List (List ℕ)
+labels_known None = []
+labels_known (Some labels) = labels
+
+-- the labels of the name that is known to stand at an offset
+abbrev pub name_there : List ℕ → ℕ → List (List ℕ)
+name_there message at = labels_known (labels_at message at)
+
+abbrev pub says_seen : List ℕ → Data → Says
+says_seen message (kinds.Address address) = Address address
+says_seen message (kinds.Alias at) = Alias (name_there message at)
+says_seen message kinds.Other = Else
+
+abbrev pub data_seen : List ℕ → Option Data → Option Says
+data_seen message None = None
+data_seen message (Some kept) = Some (says_seen message kept)
+
+abbrev pub record_seen : List ℕ → Record → RecordThere
+record_seen message r = record { fact = record { owner = name_there message r.name; says = says_seen message r.data }; behind = r.behind }
+
+abbrev pub seen : List ℕ → Option Record → Option RecordThere
+seen message None = None
+seen message (Some r) = Some (record_seen message r)
+
+abbrev pub name_seen : List ℕ → Option ℕ → Option (List (List ℕ))
+name_seen message None = None
+name_seen message (Some at) = Some (name_there message at)
+
+-- the facts of records that are known to be readable
+abbrev pub facts_known : Option (List Fact) → List Fact
+facts_known None = []
+facts_known (Some facts) = facts
+
+-- where an alias is kept, a name stands at its offset
+abbrev pub IsNameOf : List ℕ → Data → Type 0
+IsNameOf message (kinds.Address address) = Unit {0}
+IsNameOf message (kinds.Alias at) = IsSome (labels_at message at)
+IsNameOf message kinds.Other = Unit {0}

@@ -1,0 +1,86 @@
+// The records of the answer section, and the chain of aliases through them (RFC 1034, section 3.6.2).
+ghost use Rattle.std.specs.Prelude.{◌≡◌, IfSome, IsSome, is_some};
+ghost use Rattle.dns_name.specs.Wire.{labels_at};
+ghost use Rattle.dns_message.specs.Record.{facts_at};
+ghost use Rattle.dns_message.specs.Reply.{address_in, alias_in, answer_on};
+ghost use Rattle.dns_message.specs.Seen.{facts_known, name_seen, name_there};
+
+use crate::record::{Data, known_record, read_record};
+use dns_name::same_name;
+use pac_names::Answer;
+
+/// The records of an answer section: so many from an offset on.
+#[derive(Clone, Copy)]
+pub(crate) struct Section {
+    pub(crate) at: usize,
+    pub(crate) count: u16,
+}
+
+/// Whether each record of the section stands whole in the message.
+pub(crate) fn is_readable(message: &[u8], section: Section) -> bool
+    ensures { result ≡ is_some (facts_at section.count message.now section.at) }
+{
+    let mut at = section.at;
+    for _turn in 0..section.count {
+        match read_record(message, at) {
+            Some(record) => at = record.behind,
+            None => return false,
+        }
+    }
+    true
+}
+
+/// The offset of the name that the name at `present` is an alias of, by the first record that says so.
+fn first_alias(message: &[u8], section: Section, present: usize) -> Option<usize>
+    requires readable { IsSome (facts_at section.count message.now section.at) }
+    requires named { IsSome (labels_at message.now present) }
+    ensures alias { name_seen message.now result ≡ alias_in (facts_known (facts_at section.count message.now section.at)) (name_there message.now present) }
+    ensures named { IfSome result (λ target. IsSome (labels_at message.now target)) }
+{
+    let mut at = section.at;
+    for _turn in 0..section.count {
+        let record = known_record(message, at);
+        if let Data::Alias(target) = record.data {
+            if same_name(message, present, record.name) {
+                return Some(target);
+            }
+        }
+        at = record.behind;
+    }
+    None
+}
+
+/// The first address of the name at `present`.
+fn first_address(message: &[u8], section: Section, present: usize) -> Answer
+    requires readable { IsSome (facts_at section.count message.now section.at) }
+    requires named { IsSome (labels_at message.now present) }
+    ensures { result ≡ address_in (facts_known (facts_at section.count message.now section.at)) (name_there message.now present) }
+{
+    let mut at = section.at;
+    for _turn in 0..section.count {
+        let record = known_record(message, at);
+        if let Data::Address(address) = record.data {
+            if same_name(message, present, record.name) {
+                return Answer::Address(address);
+            }
+        }
+        at = record.behind;
+    }
+    Answer::NoAddress
+}
+
+/// The answer on the name at `asked`: at most 16 aliases are followed, and the last name's address stands.
+pub(crate) fn follow(message: &[u8], section: Section, asked: usize) -> Answer
+    requires readable { IsSome (facts_at section.count message.now section.at) }
+    requires named { IsSome (labels_at message.now asked) }
+    ensures { result ≡ answer_on 16 (facts_known (facts_at section.count message.now section.at)) (name_there message.now asked) }
+{
+    let mut present = asked;
+    for _step in 0..16 {
+        match first_alias(message, section, present) {
+            Some(target) => present = target,
+            None => return first_address(message, section, present),
+        }
+    }
+    first_address(message, section, present)
+}

@@ -1,0 +1,118 @@
+// Resource records.
+ghost use Rattle.std.specs.Prelude.{◌≡◌, ◌+◌, ◌≤◌, length, IsSome, Some};
+ghost use Rattle.dns_name.specs.Wire.{labels_at};
+ghost use Rattle.dns_message.specs.Numbers.{number_at};
+ghost use Rattle.dns_message.specs.Record.{record_at, says_of};
+ghost use Rattle.dns_message.specs.Seen.{data_seen, IsNameOf, record_seen, says_seen, seen};
+
+use crate::numbers::{read_u16, read_u32};
+use crate::question::{CLASS_IN, TYPE_A, TYPE_CNAME};
+use dns_name::{name_end, skip_name};
+
+/// A resource record that stands in a message (RFC 1035, section 4.1.3), by the offsets of its names.
+///
+/// ```text
+///   0  1  2  3  4  5  6  7  8  9  0  1  2  3  4  5
+/// +--+--+--+--+--+--+--+--+--+--+--+--+--+--+--+--+
+/// /                      NAME                     /
+/// +--+--+--+--+--+--+--+--+--+--+--+--+--+--+--+--+
+/// |                      TYPE                     |
+/// +--+--+--+--+--+--+--+--+--+--+--+--+--+--+--+--+
+/// |                     CLASS                     |
+/// +--+--+--+--+--+--+--+--+--+--+--+--+--+--+--+--+
+/// |                      TTL                      |
+/// |                                               |
+/// +--+--+--+--+--+--+--+--+--+--+--+--+--+--+--+--+
+/// |                   RDLENGTH                    |
+/// +--+--+--+--+--+--+--+--+--+--+--+--+--+--+--+--+
+/// /                     RDATA                     /
+/// +--+--+--+--+--+--+--+--+--+--+--+--+--+--+--+--+
+/// ```
+#[derive(Clone, Copy)]
+pub(crate) struct Record {
+    pub(crate) name: usize,
+    pub(crate) data: Data,
+    pub(crate) behind: usize,
+}
+
+/// What RDATA tells, as far as a question for an address asks.
+#[derive(Clone, Copy)]
+pub(crate) enum Data {
+    /// The address of an A record of class IN.
+    Address(u32),
+    /// The offset of the name in a CNAME record of class IN.
+    Alias(usize),
+    /// Anything else.
+    Other,
+}
+
+/// The record at an offset, where one stands whole in the message.
+pub(crate) fn read_record(message: &[u8], at: usize) -> Option<Record>
+    ensures { seen message.now result ≡ record_at message.now at }
+{
+    let fields = skip_name(message, at)?;
+    if fields + 10 > message.len() {
+        return None;
+    }
+    let length = usize::from(read_u16(message, fields + 8));
+    let behind = fields + 10 + length;
+    if behind > message.len() {
+        return None;
+    }
+    let data = read_data(message, fields, length)?;
+    Some(Record {
+        name: at,
+        data,
+        behind,
+    })
+}
+
+// What RDATA of so many octets tells, by the type and the class that stand ten octets before it.
+fn read_data(message: &[u8], fields: usize, length: usize) -> Option<Data>
+    requires { fields + 10 + length ≤ length message.now }
+    ensures { data_seen message.now result ≡ says_of message.now (number_at message.now fields) (number_at message.now (fields + 2)) (fields + 10) length }
+{
+    let data = fields + 10;
+    if read_u16(message, fields + 2) != CLASS_IN {
+        return Some(Data::Other);
+    }
+    match read_u16(message, fields) {
+        TYPE_A if length == 4 => Some(Data::Address(read_u32(message, data))),
+        TYPE_A => None,
+        TYPE_CNAME if skip_name(message, data) == Some(data + length) => Some(Data::Alias(data)),
+        TYPE_CNAME => None,
+        _ => Some(Data::Other),
+    }
+}
+
+/// The record at an offset where one is known to stand: its names are not read again.
+pub(crate) fn known_record(message: &[u8], at: usize) -> Record
+    requires { IsSome (record_at message.now at) }
+    ensures record { record_at message.now at ≡ Some (record_seen message.now result) }
+    ensures owner { IsSome (labels_at message.now result.name) }
+    ensures target { IsNameOf message.now result.data }
+{
+    let fields = name_end(message, at);
+    let length = usize::from(read_u16(message, fields + 8));
+    Record {
+        name: at,
+        data: known_data(message, fields, length),
+        behind: fields + 10 + length,
+    }
+}
+
+fn known_data(message: &[u8], fields: usize, length: usize) -> Data
+    requires room { fields + 10 + length ≤ length message.now }
+    requires known { IsSome (says_of message.now (number_at message.now fields) (number_at message.now (fields + 2)) (fields + 10) length) }
+    ensures data { says_of message.now (number_at message.now fields) (number_at message.now (fields + 2)) (fields + 10) length ≡ Some (says_seen message.now result) }
+    ensures target { IsNameOf message.now result }
+{
+    if read_u16(message, fields + 2) != CLASS_IN {
+        return Data::Other;
+    }
+    match read_u16(message, fields) {
+        TYPE_A => Data::Address(read_u32(message, fields + 10)),
+        TYPE_CNAME => Data::Alias(fields + 10),
+        _ => Data::Other,
+    }
+}
