@@ -1,0 +1,4 @@
+pub mod Chains
+pub mod Records
+pub mod Replies
+pub mod Writes

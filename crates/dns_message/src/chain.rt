@@ -3,11 +3,14 @@ ghost use Rattle.std.specs.Prelude.{◌≡◌, IfSome, IsSome, is_some};
 ghost use Rattle.dns_name.specs.Wire.{labels_at};
 ghost use Rattle.dns_message.specs.Record.{facts_at};
 ghost use Rattle.dns_message.specs.Reply.{address_in, alias_in, answer_on};
-ghost use Rattle.dns_message.specs.Seen.{facts_known, name_seen, name_there};
+ghost use Rattle.dns_message.specs.Seen.{facts_known, IsNameOf, name_seen, name_there, TellsAddress, TellsAlias};
 
-use crate::record::{Data, known_record, read_record};
+use crate::record::{Data, Record, known_record, read_record};
 use dns_name::same_name;
 use pac_names::Answer;
+
+/// How many aliases are followed at most.
+const MAX_ALIASES: u32 = 16;
 
 /// The records of an answer section: so many from an offset on.
 #[derive(Clone, Copy)]
@@ -40,14 +43,26 @@ fn first_alias(message: &[u8], section: Section, present: usize) -> Option<usize
     let mut at = section.at;
     for _turn in 0..section.count {
         let record = known_record(message, at);
-        if let Data::Alias(target) = record.data {
-            if same_name(message, present, record.name) {
-                return Some(target);
-            }
+        if let Some(target) = alias_told(message, record, present) {
+            return Some(target);
         }
         at = record.behind;
     }
     None
+}
+
+// The offset of the name that a record says the name at `present` is an alias of.
+fn alias_told(message: &[u8], resource: Record, present: usize) -> Option<usize>
+    requires owner { IsSome (labels_at message.now resource.name) }
+    requires target { IsNameOf message.now resource.data }
+    requires named { IsSome (labels_at message.now present) }
+    ensures told { TellsAlias message.now resource (name_there message.now present) (name_seen message.now result) }
+    ensures named { IfSome result (λ target. IsSome (labels_at message.now target)) }
+{
+    match resource.data {
+        Data::Alias(target) if same_name(message, present, resource.name) => Some(target),
+        _ => None,
+    }
 }
 
 /// The first address of the name at `present`.
@@ -59,24 +74,34 @@ fn first_address(message: &[u8], section: Section, present: usize) -> Answer
     let mut at = section.at;
     for _turn in 0..section.count {
         let record = known_record(message, at);
-        if let Data::Address(address) = record.data {
-            if same_name(message, present, record.name) {
-                return Answer::Address(address);
-            }
+        if let Some(address) = address_told(message, record, present) {
+            return Answer::Address(address);
         }
         at = record.behind;
     }
     Answer::NoAddress
 }
 
-/// The answer on the name at `asked`: at most 16 aliases are followed, and the last name's address stands.
+// The address that a record says the name at `present` has.
+fn address_told(message: &[u8], resource: Record, present: usize) -> Option<u32>
+    requires owner { IsSome (labels_at message.now resource.name) }
+    requires named { IsSome (labels_at message.now present) }
+    ensures { TellsAddress message.now resource (name_there message.now present) result }
+{
+    match resource.data {
+        Data::Address(address) if same_name(message, present, resource.name) => Some(address),
+        _ => None,
+    }
+}
+
+/// The answer on the name at `asked`: at most `MAX_ALIASES` aliases are followed, and the last name's address stands.
 pub(crate) fn follow(message: &[u8], section: Section, asked: usize) -> Answer
     requires readable { IsSome (facts_at section.count message.now section.at) }
     requires named { IsSome (labels_at message.now asked) }
     ensures { result ≡ answer_on 16 (facts_known (facts_at section.count message.now section.at)) (name_there message.now asked) }
 {
     let mut present = asked;
-    for _step in 0..16 {
+    for _step in 0..MAX_ALIASES {
         match first_alias(message, section, present) {
             Some(target) => present = target,
             None => return first_address(message, section, present),

@@ -3,7 +3,7 @@ ghost use Rattle.std.specs.Prelude.{◌≡◌, ◌+◌, ◌≤◌, length, IsSom
 ghost use Rattle.dns_name.specs.Wire.{labels_at};
 ghost use Rattle.dns_message.specs.Numbers.{number_at};
 ghost use Rattle.dns_message.specs.Record.{record_at, says_of};
-ghost use Rattle.dns_message.specs.Seen.{data_seen, IsNameOf, record_seen, says_seen, seen};
+ghost use Rattle.dns_message.specs.Seen.{data_seen, IsNameOf, IsThere, record_seen, says_seen, seen};
 
 use crate::numbers::{read_u16, read_u32};
 use crate::question::{CLASS_IN, TYPE_A, TYPE_CNAME};
@@ -54,12 +54,12 @@ pub(crate) fn read_record(message: &[u8], at: usize) -> Option<Record>
     if fields + 10 > message.len() {
         return None;
     }
-    let length = usize::from(read_u16(message, fields + 8));
-    let behind = fields + 10 + length;
+    let rdlength = read_u16(message, fields + 8) as usize;
+    let behind = fields + 10 + rdlength;
     if behind > message.len() {
         return None;
     }
-    let data = read_data(message, fields, length)?;
+    let data = read_data(message, fields, rdlength)?;
     Some(Record {
         name: at,
         data,
@@ -68,18 +68,18 @@ pub(crate) fn read_record(message: &[u8], at: usize) -> Option<Record>
 }
 
 // What RDATA of so many octets tells, by the type and the class that stand ten octets before it.
-fn read_data(message: &[u8], fields: usize, length: usize) -> Option<Data>
-    requires { fields + 10 + length ≤ length message.now }
-    ensures { data_seen message.now result ≡ says_of message.now (number_at message.now fields) (number_at message.now (fields + 2)) (fields + 10) length }
+fn read_data(message: &[u8], fields: usize, rdlength: usize) -> Option<Data>
+    requires { fields + 10 + rdlength ≤ length message.now }
+    ensures { data_seen message.now result ≡ says_of message.now (number_at message.now fields) (number_at message.now (fields + 2)) (fields + 10) rdlength }
 {
     let data = fields + 10;
     if read_u16(message, fields + 2) != CLASS_IN {
         return Some(Data::Other);
     }
     match read_u16(message, fields) {
-        TYPE_A if length == 4 => Some(Data::Address(read_u32(message, data))),
+        TYPE_A if rdlength == 4 => Some(Data::Address(read_u32(message, data))),
         TYPE_A => None,
-        TYPE_CNAME if skip_name(message, data) == Some(data + length) => Some(Data::Alias(data)),
+        TYPE_CNAME if skip_name(message, data) == Some(data + rdlength) => Some(Data::Alias(data)),
         TYPE_CNAME => None,
         _ => Some(Data::Other),
     }
@@ -92,19 +92,27 @@ pub(crate) fn known_record(message: &[u8], at: usize) -> Record
     ensures owner { IsSome (labels_at message.now result.name) }
     ensures target { IsNameOf message.now result.data }
 {
-    let fields = name_end(message, at);
-    let length = usize::from(read_u16(message, fields + 8));
+    let fields = known_fields(message, at);
+    let rdlength = read_u16(message, fields + 8) as usize;
     Record {
         name: at,
-        data: known_data(message, fields, length),
-        behind: fields + 10 + length,
+        data: known_data(message, fields, rdlength),
+        behind: fields + 10 + rdlength,
     }
 }
 
-fn known_data(message: &[u8], fields: usize, length: usize) -> Data
-    requires room { fields + 10 + length ≤ length message.now }
-    requires known { IsSome (says_of message.now (number_at message.now fields) (number_at message.now (fields + 2)) (fields + 10) length) }
-    ensures data { says_of message.now (number_at message.now fields) (number_at message.now (fields + 2)) (fields + 10) length ≡ Some (says_seen message.now result) }
+// The offset of TYPE, behind the name.
+fn known_fields(message: &[u8], at: usize) -> usize
+    requires { IsSome (record_at message.now at) }
+    ensures { IsThere message.now at result }
+{
+    name_end(message, at)
+}
+
+fn known_data(message: &[u8], fields: usize, rdlength: usize) -> Data
+    requires room { fields + 10 + rdlength ≤ length message.now }
+    requires known { IsSome (says_of message.now (number_at message.now fields) (number_at message.now (fields + 2)) (fields + 10) rdlength) }
+    ensures data { says_of message.now (number_at message.now fields) (number_at message.now (fields + 2)) (fields + 10) rdlength ≡ Some (says_seen message.now result) }
     ensures target { IsNameOf message.now result }
 {
     if read_u16(message, fields + 2) != CLASS_IN {

@@ -43,12 +43,16 @@ pub fn write_reply(buffer: &mut [u8; 512], id: u16, name: &LookupName, answer: A
     ensures length { result ≡ length (reply_octets id name.now answer) }
     ensures told { reply_of (take result buffer.new) id name.now ≡ Some answer }
 {
-    let found = matches!(answer, Answer::Address(_));
-    Header::response(id, found).write(buffer);
-    let at = write_question(buffer, name);
     match answer {
-        Answer::Address(address) => write_address(buffer, at, address),
-        Answer::NoAddress => at,
+        Answer::Address(address) => {
+            Header::response(id, true).write(buffer);
+            let at = write_question(buffer, name);
+            write_address(buffer, at, address)
+        }
+        Answer::NoAddress => {
+            Header::response(id, false).write(buffer);
+            write_question(buffer, name)
+        }
     }
 }
 
