@@ -1,4 +1,5 @@
 pub mod Chains
 pub mod Records
 pub mod Replies
+pub mod RoundTrip
 pub mod Writes

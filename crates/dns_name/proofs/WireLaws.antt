@@ -1,5 +1,5 @@
 -- A name that is written is read back where it stands.
-use Rattle.std.proofs.Common.{◌≡◌, ℕ, ◌+◌, ◌-◌, ◌<◌, ◌≤◌, Bool, true, cond, leb, List, [], ◌∷◌, ◌++◌, length, take, drop, set, get_or, slice_range, Option, Some, None, refl, sym, ◌∙◌, ap, arith}
+use Rattle.std.proofs.Common.{◌≡◌, ℕ, ◌+◌, ◌-◌, ◌*◌, ◌<◌, ◌≤◌, Bool, true, false, cond, leb, List, [], ◌∷◌, ◌++◌, length, take, drop, set, get_or, slice_range, Option, Some, None, refl, sym, ◌∙◌, ap, arith}
 use Rattle.std.specs.List.{flat_map, list_all}
 use Rattle.std.proofs.lemmas.Bool.{and_parts, leb-true, le-leb}
 use Rattle.std.proofs.lemmas.Bool.Decides.{nat_tests}
@@ -7,12 +7,12 @@ use Rattle.std.proofs.lemmas.List.{length-append, length-drop, length-take-le, a
 use Rattle.pac_names.specs.Labels.{labels_of, labels_length}
 use Rattle.pac_names.specs.Names.{is_label}
 use Rattle.pac_names.proofs.LabelLaws.{labels_length-labels_of}
-use Rattle.dns_name.specs.Wire.{WireName, part_at, with_label, name_at, within_limit}
+use Rattle.dns_name.specs.Wire.{WireName, part_at, with_behind, with_label, name_at, within_limit}
 use Rattle.dns_name.specs.Walk.{rest_of}
 use Rattle.dns_name.specs.Writing.{overwritten, wire_label, wire_name}
-use Rattle.dns_name.proofs.WalkLaws.{rest_at_end, rest_at_label, name_is_rest}
+use Rattle.dns_name.proofs.WalkLaws.{rest_at_end, rest_at_label, rest_at_pointer, name_is_rest}
 use Rattle.dns_name.proofs.WriteLaws.{IsWrittenSoFar, labels_written, written_end, end_of_written}
-use Rattle.dns_name.specs.declared.part.Part.TheVariants.{End, Label}
+use Rattle.dns_name.specs.declared.part.Part.TheVariants.{End, Label, Pointer}
 
 part_is_end : (message : List ℕ) (at : ℕ) → at < length message → get_or message at 0 ≡ 0 → part_at message at ≡ End
 unfolding part_at
@@ -87,3 +87,30 @@ written_read old new name begin at h short kept =
     ∙ wire_name_at (overwritten old begin (wire_name name)) name (drop (begin + length (wire_name name)) old) begin
     (drop-overwritten old begin (wire_name name) (omega (arith, h.place, h.room))) short kept
     ∙ ap (λ (n : ℕ). Some (record { labels = labels_of name; behind = n })) (sym (end_of_written old new name begin at h))
+
+part_is_pointer : (message : List ℕ) (at high low : ℕ) → at + 1 < length message → get_or message at 0 ≡ high → get_or message (at + 1) 0 ≡ low → 192 ≤ high
+    → part_at message at ≡ Pointer ((high - 192) * 256 + low)
+unfolding part_at
+part_is_pointer message at high low within first second pointer = grind (arith, nat_tests)
+
+-- one choice for two values
+both_chosen : (b : Bool) (name found other target : WireName) → cond b (Some name) None ≡ Some found → (name ≡ found → other ≡ target) → cond b (Some other) None ≡ Some target
+both_chosen true name found other target e h = let same : name ≡ found = cc in ap Some (h same)
+both_chosen false name found other target e h = cc
+
+limited_behind : (name : Option WireName) (found : WireName) (behind : ℕ) → within_limit name ≡ Some found
+    → within_limit (with_behind behind name) ≡ Some (record { labels = found.labels; behind = behind })
+limited_behind None found behind e = cc
+limited_behind (Some name) found behind e =
+    both_chosen (leb (labels_length name.labels + 1) 255) name found (record { labels = name.labels; behind = behind }) (record { labels = found.labels; behind = behind }) e
+    (ap (λ (n : WireName). record { labels = n.labels; behind = behind }))
+
+-- a pointer to a name nearer to the front is that name
+pub name_at_pointer : (message : List ℕ) (at high low : ℕ) (after : List ℕ) (name : WireName) → drop at message ≡ high ∷ low ∷ after → 192 ≤ high → (high - 192) * 256 + low < at
+    → name_at message ((high - 192) * 256 + low) ≡ Some name → name_at message at ≡ Some (record { labels = name.labels; behind = at + 2 })
+name_at_pointer message at high low after name e pointer nearer found =
+    let within : at + 1 < length message = omega (arith, long_there message at high (low ∷ after) e) in
+    let next : drop (at + 1) message ≡ low ∷ after = sym (drop-drop 1 at message) ∙ ap (drop 1) e in
+    let part = part_is_pointer message at high low within (octet_there message at high (low ∷ after) e) (octet_there message (at + 1) low after next) pointer in
+    name_is_rest message at ∙ ap within_limit (rest_at_pointer message at at ((high - 192) * 256 + low) part nearer)
+    ∙ limited_behind (rest_of message ((high - 192) * 256 + low) ((high - 192) * 256 + low)) name (at + 2) (sym (name_is_rest message ((high - 192) * 256 + low)) ∙ found)
