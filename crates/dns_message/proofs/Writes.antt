@@ -1,7 +1,7 @@
 -- Writing on, number after number.
 use Rattle.std.proofs.Common.{◌≡◌, ℕ, ◌+◌, ◌-◌, ◌≤◌, List, [], ◌++◌, length, take, drop, refl, sym, ◌∙◌, ap, arith}
 use borrow.Rule.Slice.PartMut.{put_mid}
-use Rattle.std.proofs.lemmas.List.{length-append, length-drop, length-take, append_assoc, drop-drop, take_all, drop_all, append-nil}
+use Rattle.std.proofs.lemmas.List.{length-append, length-drop, length-take, append_assoc, drop-drop, take_all, take_at, drop_all, append-nil}
 use Rattle.dns_name.specs.Writing.{overwritten}
 use Rattle.dns_name.proofs.WriteLaws.{overwritten-overwritten}
 
@@ -57,3 +57,7 @@ pub written_thrice : (old one two three xs ys zs : List ℕ) (begin at next : �
 written_thrice old one two three xs ys zs begin at next first second third place then room =
     written_on old two three begin next (xs ++ ys) zs (written_on old one two begin at xs ys first second place (omega arith)) third
     (omega (arith, place, then, length-append xs ys)) (omega (arith, length-append xs ys))
+
+-- the front of the buffer is what was written
+pub told_front : (old new octets : List ℕ) (n : ℕ) → new ≡ octets ++ drop (length octets) old → n ≡ length octets → take n new ≡ octets
+told_front old new octets n written long = ap (take n) written ∙ take_at octets (drop (length octets) old) n (sym long)

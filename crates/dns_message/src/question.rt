@@ -1,5 +1,6 @@
 // The question for the address of a name.
-ghost use Rattle.std.specs.Prelude.{◌≡◌, ◌+◌, ◌≤◌, length, IfSome};
+ghost use Rattle.std.specs.Prelude.{◌≡◌, ◌+◌, ◌≤◌, length, IsTrue};
+ghost use Rattle.pac_names.specs.Names.{is_lookup_name};
 ghost use Rattle.dns_name.specs.Writing.{overwritten};
 ghost use Rattle.dns_message.specs.Question.{asked_octets, question_end};
 
@@ -32,6 +33,7 @@ pub(crate) fn write_question(buffer: &mut [u8; 512], name: &LookupName) -> usize
     ensures written { buffer.new ≡ overwritten buffer.old 12 (asked_octets name.now) }
     ensures behind { result ≡ 12 + length (asked_octets name.now) }
     ensures room { result ≤ 271 }
+    ensures kept { IsTrue (is_lookup_name name.now) }
 {
     let at = write_name(buffer, 12, name);
     let at = write_u16(buffer, at, TYPE_A);

@@ -1,5 +1,5 @@
 // Replies to the question for the address of a name.
-ghost use Rattle.std.specs.Prelude.{◌≡◌, ◌+◌, ◌≤◌, ◌++◌, Some, drop, length, take};
+ghost use Rattle.std.specs.Prelude.{◌≡◌, ◌+◌, ◌<◌, ◌≤◌, ◌^◌, ◌++◌, Some, drop, length, take};
 ghost use Rattle.byteorder.specs.Endian.{big_bytes};
 ghost use Rattle.dns_name.specs.Writing.{overwritten};
 ghost use Rattle.dns_message.specs.Reply.{answer_octets, reply_octets, reply_of};
@@ -61,6 +61,7 @@ fn write_address(buffer: &mut [u8; 512], at: usize, address: u32) -> usize
     requires { at ≤ 271 }
     ensures written { buffer.new ≡ overwritten buffer.old at (answer_octets (Answer.Address address)) }
     ensures behind { result ≡ at + 16 }
+    ensures fits { address < 2 ^ 32 }
 {
     let at = write_u16(buffer, at, 0xc00c);
     let at = write_u16(buffer, at, TYPE_A);

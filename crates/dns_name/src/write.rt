@@ -1,6 +1,7 @@
 // Names written into messages.
-ghost use Rattle.std.specs.Prelude.{◌≡◌, ◌+◌, ◌≤◌, Some, length};
+ghost use Rattle.std.specs.Prelude.{◌≡◌, ◌+◌, ◌≤◌, IsTrue, Some, length};
 ghost use Rattle.pac_names.specs.Labels.{labels_of};
+ghost use Rattle.pac_names.specs.Names.{is_lookup_name};
 ghost use Rattle.dns_name.specs.Wire.{name_at};
 ghost use Rattle.dns_name.specs.Writing.{overwritten, wire_label, wire_name};
 
@@ -13,6 +14,7 @@ pub fn write_name(buffer: &mut [u8; 512], at: usize, name: &LookupName) -> usize
     ensures written { buffer.new ≡ overwritten buffer.old at (wire_name name.now) }
     ensures behind { result ≡ at + length (wire_name name.now) }
     ensures room { result ≤ at + 255 }
+    ensures kept { IsTrue (is_lookup_name name.now) }
     ensures read { name_at buffer.new at ≡ Some (record { labels = labels_of name.now; behind = result }) }
 {
     let mut at = at;
