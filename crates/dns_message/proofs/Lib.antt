@@ -1,4 +1,5 @@
 pub mod Chains
+pub mod QueryLaws
 pub mod Records
 pub mod Replies
 pub mod RoundTrip

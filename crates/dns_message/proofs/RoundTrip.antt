@@ -43,7 +43,7 @@ pub record AsksFor (datagram name after : List ℕ) : Type 0 where
   pub labels : list_all is_label (labels_of name) ≡ true
 
 -- the name in it
-asked_there : (datagram name after : List ℕ) → AsksFor datagram name after → name_at datagram 12 ≡ Some (record { labels = labels_of name; behind = 12 + length (wire_name name) })
+pub asked_there : (datagram name after : List ℕ) → AsksFor datagram name after → name_at datagram 12 ≡ Some (record { labels = labels_of name; behind = 12 + length (wire_name name) })
 asked_there datagram name after h = wire_name_at datagram name (0 ∷ 1 ∷ 0 ∷ 1 ∷ after) 12 h.question h.short h.labels
 
 labels_there : (datagram name after : List ℕ) → AsksFor datagram name after → labels_at datagram 12 ≡ Some (labels_of name)

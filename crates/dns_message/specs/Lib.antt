@@ -1,4 +1,6 @@
+pub mod Dotted
 pub mod Header
+pub mod Laws
 pub mod Numbers
 pub mod Question
 pub mod Record

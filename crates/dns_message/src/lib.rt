@@ -6,11 +6,13 @@
 
 mod chain;
 mod header;
+mod laws;
 mod numbers;
 mod query;
 mod question;
 mod record;
 mod reply;
 
-pub use query::write_query;
+pub use laws::{one_name_replied, questions_differ};
+pub use query::{read_query, write_query};
 pub use reply::{read_reply, write_reply};

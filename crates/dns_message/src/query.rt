@@ -1,9 +1,11 @@
 // The message that asks for the address of a name.
-ghost use Rattle.std.specs.Prelude.{◌≡◌, ◌<◌, ◌^◌, ◌++◌, ℕ, List, IfNone, IfSome, IsTrue, Some, drop, length};
+ghost use Rattle.std.specs.Prelude.{◌≡◌, ◌<◌, ◌≤◌, ◌^◌, ◌++◌, ℕ, List, IfSome, IsTrue, Some, drop, length};
 ghost use Rattle.pac_names.specs.Names.{is_lookup_name};
-ghost use Rattle.dns_message.specs.Question.{question_octets};
+ghost use Rattle.dns_message.specs.Question.{asked_octets, question_octets};
+ghost use Rattle.dns_message.specs.Dotted.{dotted};
 
 use crate::header::Header;
+use crate::numbers::read_u16;
 use crate::question::write_question;
 use arrayvec::ArrayVec;
 use pac_names::LookupName;
@@ -16,4 +18,58 @@ pub fn write_query(buffer: &mut [u8; 512], id: u16, name: &LookupName) -> usize
 {
     Header::query(id).write(buffer);
     write_question(buffer, name)
+}
+
+/// The number and the name that a datagram asks for, where it is the question that `write_query` writes, octet for octet.
+pub fn read_query(datagram: &[u8]) -> Option<(u16, LookupName)>
+    // What is read is the datagram's question.
+    ensures found { IfSome result (λ asked. datagram.now ≡ question_octets asked.0 asked.1) }
+    // What was written is read back.
+    ensures back { (id : ℕ) (name : List ℕ) → id < 2 ^ 16 → IsTrue (is_lookup_name name) → datagram.now ≡ question_octets id name → result ≡ Some (id, name) }
+{
+    let name = plain_name(datagram)?;
+    let id = read_u16(datagram, 0);
+    let mut buffer = [0; 512];
+    let length = write_query(&mut buffer, id, &name);
+    if &buffer[..length] == datagram {
+        Some((id, name))
+    } else {
+        None
+    }
+}
+
+// The name that stands without pointers in a question behind a header; anything else may give any name.
+fn plain_name(datagram: &[u8]) -> Option<LookupName>
+    ensures named { (name : List ℕ) → IsTrue (is_lookup_name name) → drop 12 datagram.now ≡ asked_octets name → result ≡ Some name }
+    ensures long { IfSome result (λ name. 17 ≤ length datagram.now) }
+{
+    // The name ends in the root's octet, and QTYPE and QCLASS take four.
+    if datagram.len() < 17 {
+        return None;
+    }
+    if datagram.len() > 271 {
+        return None;
+    }
+    let labels = &datagram[12..datagram.len() - 5];
+    let (first, rest) = labels.split_first()?;
+    LookupName::from_bytes(dots(*first, rest).as_slice())
+}
+
+// Labels with a dot in the place of each length but the first one's.
+fn dots(first: u8, rest: &[u8]) -> ArrayVec<u8, 253>
+    requires { length rest.now ≤ 253 }
+    ensures { result.items ≡ dotted first rest.now }
+{
+    let mut bytes = ArrayVec::new();
+    let mut left = first;
+    for octet in rest {
+        if left == 0 {
+            bytes.push(b'.');
+            left = *octet;
+        } else {
+            bytes.push(*octet);
+            left -= 1;
+        }
+    }
+    bytes
 }
