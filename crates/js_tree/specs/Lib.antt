@@ -1,0 +1,6 @@
+pub mod Code
+pub mod Size
+pub mod Smaller
+pub mod Tree
+pub mod View
+pub mod formers
