@@ -83,13 +83,15 @@ def part_size(kind, variable, types):
     """What a part adds to a size: a tree its size, names their number."""
     if kind in types:
         return f"{short(kind)}_size {variable}"
+    if kind in ("BoundName", "Option BoundName"):
+        return "1"
     if kind in ("List BoundName", "List (List ℕ)"):
         return f"length {variable}"
     return None
 
 
 def write_size(types):
-    out = [NOTE + "-- The size of a tree: its parts, and the names of its functions. It is above that of each tree in it."]
+    out = [NOTE + "-- The size of a tree: its nodes, its names and the lists between them. It is above that of each tree in it."]
     out.append("use Rattle.std.specs.Prelude.{ℕ, ◌+◌, length}\n" + imports(types))
     out.append("abbrev mutual")
     for tree in types:

@@ -1,4 +1,5 @@
 pub mod Code
+pub mod Script
 pub mod Size
 pub mod Smaller
 pub mod Tree

@@ -1,5 +1,5 @@
 -- Written by tools/write_tree.py from Tree.antt: change that file, and run the script.
--- The size of a tree: its parts, and the names of its functions. It is above that of each tree in it.
+-- The size of a tree: its nodes, its names and the lists between them. It is above that of each tree in it.
 use Rattle.std.specs.Prelude.{ℕ, ◌+◌, length}
 use Rattle.js_tree.specs.Tree.{ExpressionTree, Number, Characters, True, False, Null, This, Name, Array, Object, Function, Numbered, Suffixed, New, Update, Unary, Chain, Conditional, Assign, Comma, OptionalExpression, absent, present, Expressions, no_expression, an_expression, Items, no_item, an_item, Properties, no_property, a_property, SuffixTree, a_member, an_index, a_call, Suffixes, no_suffix, a_suffix, Operands, no_operand, an_operand, FunctionTree, a_function, StatementTree, Block, Empty, Evaluate, Debugger, Var, If, DoWhile, While, For, ForIn, Continue, Break, Return, Throw, Switch, Try, Declare, DeclareNumbered, OptionalStatement, omitted, given, Statements, no_statement, a_statement, Declarations, no_declared, a_declared, Branches, no_branch, a_branch, StartTree, no_start, start_var, start_value, TargetTree, target_value, target_declared, Clauses, no_clause, a_clause, CatchTree, no_catch, a_catch}
 
@@ -11,7 +11,7 @@ abbrev mutual
   expression_size (False x0) = 1
   expression_size (Null x0) = 1
   expression_size (This x0) = 1
-  expression_size (Name x0 x1) = 1
+  expression_size (Name x0 x1) = 1 + 1
   expression_size (Array x0 x1) = items_size x1 + 1
   expression_size (Object x0 x1) = properties_size x1 + 1
   expression_size (Function x0 x1) = function_size x1 + 1
@@ -55,7 +55,7 @@ abbrev mutual
   operands_size (an_operand x0 x1 x2 x3) = expression_size x2 + operands_size x3 + 1
 
   pub function_size : FunctionTree → ℕ
-  function_size (a_function x0 x1 x2 x3) = length x1 + length x2 + statements_size x3 + 1
+  function_size (a_function x0 x1 x2 x3) = 1 + length x1 + length x2 + statements_size x3 + 1
 
   pub statement_size : StatementTree → ℕ
   statement_size (Block x0 x1) = statements_size x1 + 1
@@ -74,8 +74,8 @@ abbrev mutual
   statement_size (Throw x0 x1) = expression_size x1 + 1
   statement_size (Switch x0 x1 x2) = expression_size x1 + clauses_size x2 + 1
   statement_size (Try x0 x1 x2 x3) = statement_size x1 + catch_size x2 + optional_statement_size x3 + 1
-  statement_size (Declare x0 x1 x2) = function_size x2 + 1
-  statement_size (DeclareNumbered x0 x1 x2) = 1
+  statement_size (Declare x0 x1 x2) = 1 + function_size x2 + 1
+  statement_size (DeclareNumbered x0 x1 x2) = 1 + 1
 
   pub optional_statement_size : OptionalStatement → ℕ
   optional_statement_size omitted = 1
@@ -87,7 +87,7 @@ abbrev mutual
 
   pub declarations_size : Declarations → ℕ
   declarations_size no_declared = 1
-  declarations_size (a_declared x0 x1 x2) = optional_expression_size x1 + declarations_size x2 + 1
+  declarations_size (a_declared x0 x1 x2) = 1 + optional_expression_size x1 + declarations_size x2 + 1
 
   pub branches_size : Branches → ℕ
   branches_size no_branch = 1
@@ -100,7 +100,7 @@ abbrev mutual
 
   pub target_size : TargetTree → ℕ
   target_size (target_value x0) = expression_size x0 + 1
-  target_size (target_declared x0 x1) = optional_expression_size x1 + 1
+  target_size (target_declared x0 x1) = 1 + optional_expression_size x1 + 1
 
   pub clauses_size : Clauses → ℕ
   clauses_size no_clause = 1
@@ -108,4 +108,4 @@ abbrev mutual
 
   pub catch_size : CatchTree → ℕ
   catch_size no_catch = 1
-  catch_size (a_catch x0 x1) = statement_size x1 + 1
+  catch_size (a_catch x0 x1) = 1 + statement_size x1 + 1

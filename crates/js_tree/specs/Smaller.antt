@@ -25,11 +25,11 @@ use Rattle.js_tree.specs.declared.statement.ForTarget.{ForTarget}
 use Rattle.js_tree.specs.declared.statement.ForTarget.TheVariants as target
 use Rattle.js_tree.specs.declared.statement.Clause.{Clause}
 use Rattle.js_tree.specs.declared.statement.Catch.{Catch}
-use Rattle.js_tree.specs.declared.expression.Expression.TheDeep.{deep-Expression, deep-ExpressionNode, deep-Function, deep-Property, deep-Suffix, deep-SuffixNode, deep-Operand, deep-Statement, deep-StatementNode, deep-Declared, deep-Branch, deep-ForStart, deep-ForTarget, deep-Clause, deep-Catch}
+use Rattle.js_tree.specs.declared.expression.Expression.TheDeep.{deep-Expression, deep-ExpressionNode, deep-Function, deep-Property, deep-Suffix, deep-SuffixNode, deep-Operand, deep-Statement, deep-StatementNode, deep-Declared, deep-Branch, deep-ForStart, deep-ForTarget, deep-Clause}
 use Rattle.js_tree.specs.declared.expression.Expression.TheShapes.{weighed-ExpressionNode-Array-0-at-1}
 use Rattle.js_tree.specs.Tree.{ExpressionTree, StatementTree, optional_of, expressions_of, items_of, statements_of}
-use Rattle.js_tree.specs.Size.{expression_size, optional_expression_size, expressions_size, items_size, properties_size, suffix_size, suffixes_size, operands_size, function_size, statement_size, optional_statement_size, statements_size, declarations_size, branches_size, start_size, target_size, clauses_size, catch_size}
-use Rattle.js_tree.specs.View.{expression_of, expression_view, statement_of, statement_view, properties_of, suffix_of, suffixes_of, operands_of, function_of, declarations_of, branches_of, clauses_of, optional_box, optional_statement, start_of, optional_start, target_of, optional_catch}
+use Rattle.js_tree.specs.Size.{expression_size, optional_expression_size, expressions_size, items_size, properties_size, suffix_size, suffixes_size, operands_size, function_size, statement_size, statements_size, declarations_size, branches_size, start_size, target_size, clauses_size}
+use Rattle.js_tree.specs.View.{expression_of, expression_view, statement_of, statement_view, properties_of, suffix_of, suffixes_of, operands_of, function_of, declarations_of, branches_of, clauses_of, start_of, target_of}
 
 -- ---- lists
 

@@ -5,10 +5,12 @@
 #![tactic(auto)]
 
 mod bound;
+mod count;
 mod expression;
 mod operators;
 mod place;
 mod refusal;
+mod script;
 mod sign;
 mod statement;
 mod token;
@@ -23,6 +25,7 @@ pub use expression::{
 pub use operators::{AssignOp, BinaryOp, UnaryOp, UpdateForm, UpdateOp};
 pub use place::Place;
 pub use refusal::{ReadAnswer, ReadKind};
+pub use script::Script;
 pub use sign::Sign;
 pub use statement::{
     Branch, BranchList, Catch, Clause, ClauseList, Declared, DeclaredList, ForStart, ForTarget,
