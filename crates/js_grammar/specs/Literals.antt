@@ -75,19 +75,22 @@ escape_at (u ∷ us) =
     else if is_digit u then Err Unsupported
     else Ok (Some (escape_of u), 1)
 
+-- the unit that a character of a text gives, or none, and how many units it has; u: its first unit, `\` (92) or any other
+abbrev pub character_at : ℕ → List ℕ → Result (Option ℕ × ℕ) ReadKind
+character_at u us = if nat_eq u 92 then (escape_at us >>= λ x. Ok (x.0, x.1 + 1)) else Ok (Some u, 1)
+
 -- units in front of the rest of a text, written by n units
 abbrev pub in_front : List ℕ → ℕ → List ℕ × ℕ → Result (List ℕ × ℕ) ReadKind
 in_front units n rest = Ok (units ++ rest.0, n + rest.1)
 
--- the characters up to the quote, and how many units they have, the quote among them; no line ends before a `\` (92)
+-- the characters up to the quote, and how many units they have, the quote among them; no line ends but behind a `\`
 unfoldable pub text_from : ℕ → ℕ → List ℕ → Result (List ℕ × ℕ) ReadKind
 text_from zero quote us = Err BadToken
 text_from (suc n) quote [] = Err BadToken
 text_from (suc n) quote (u ∷ us) =
     if nat_eq u quote then Ok ([], 1)
     else if is_break_unit u then Err BadToken
-    else if nat_eq u 92 then (escape_at us >>= λ x. text_from n quote (drop x.1 us) >>= in_front (option_to_list x.0) (x.1 + 1))
-    else text_from n quote us >>= in_front (u ∷ []) 1
+    else (character_at u us >>= λ x. text_from n quote (drop x.1 (u ∷ us)) >>= in_front (option_to_list x.0) x.1)
 
 -- each character has a unit at least
 abbrev pub text_at : ℕ → List ℕ → Result (List ℕ × ℕ) ReadKind

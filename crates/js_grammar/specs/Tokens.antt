@@ -1,5 +1,5 @@
 -- The tokens of a text (ECMA-262 5.1, section 7, cut to this profile): the longest at each place, or the first refusal.
-use Rattle.std.specs.Prelude.{ℕ, zero, suc, ◌+◌, ℤ, List, [], ◌∷◌, ◌++◌, length, take, drop, Option, Some, None, Result, Ok, Err, Bool, true, false, ◌&&◌, ◌||◌, not, nat_eq, if◌then◌else◌}
+use Rattle.std.specs.Prelude.{ℕ, zero, suc, ◌+◌, List, [], ◌∷◌, ◌++◌, length, take, drop, Option, Some, None, Result, Ok, Err, Bool, true, false, ◌&&◌, ◌||◌, not, nat_eq, if◌then◌else◌}
 use Rattle.std.specs.Option.{option_map}
 use Rattle.std.specs.List.{prefix_len}
 use Rattle.utf16_text.specs.Letters.{is_break_unit, is_space_unit}
@@ -82,23 +82,23 @@ abbrev pub sign_piece : Option (SignName × ℕ) → Result Piece ReadKind
 sign_piece None = Err BadToken
 sign_piece (Some x) = Ok (Some (Sign x.0), x.1)
 
--- us: the units behind a slash (47)
+-- at a slash (47): a comment, a division sign, or what would be a regular expression
 abbrev pub slash_piece : Bool → List ℕ → Result Piece ReadKind
 slash_piece dividing us =
-    if begins_with 47 us then Ok (None, prefix_len is_inline us + 1)
-    else if begins_with 42 us then comment_piece (comment_length (drop 1 us))
-    else if dividing then sign_piece (sign_at (47 ∷ us))
+    if begins_with 47 (drop 1 us) then Ok (None, prefix_len is_inline (drop 1 us) + 1)
+    else if begins_with 42 (drop 1 us) then comment_piece (comment_length (drop 2 us))
+    else if dividing then sign_piece (sign_at us)
     else Err Unsupported
 
 abbrev pub word_piece : List ℕ → Result Piece ReadKind
 word_piece us = let n = prefix_len is_word_part us in Ok (Some (Word (take n us)), n)
 
-abbrev pub number_piece : ℤ × ℕ → Result Piece ReadKind
-number_piece x = Ok (Some (Number x.0), x.1)
+abbrev pub number_piece : List ℕ → Result Piece ReadKind
+number_piece us = number_at us >>= λ x. Ok (Some (Number x.0), x.1)
 
--- x: a text behind its first quote
-abbrev pub text_piece : List ℕ × ℕ → Result Piece ReadKind
-text_piece x = Ok (Some (Text x.0), x.1 + 1)
+-- us: the units behind the first quote
+abbrev pub text_piece : ℕ → List ℕ → Result Piece ReadKind
+text_piece quote us = text_at quote us >>= λ x. Ok (Some (Text x.0), x.1 + 1)
 
 -- `'` (39) or `"` (34)
 abbrev pub is_quote : ℕ → Bool
@@ -109,10 +109,10 @@ piece_at dividing [] = Ok (None, 0)
 piece_at dividing (u ∷ us) =
     if is_space_unit u then Ok (None, prefix_len is_space_unit us + 1)
     else if is_word_start u then word_piece (u ∷ us)
-    else if is_digit u then number_at (u ∷ us) >>= number_piece
+    else if is_digit u then number_piece (u ∷ us)
     else if nat_eq u 46 && first_passes is_digit us then Err FractionLiteral
-    else if is_quote u then text_at u us >>= text_piece
-    else if nat_eq u 47 then slash_piece dividing us
+    else if is_quote u then text_piece u us
+    else if nat_eq u 47 then slash_piece dividing (u ∷ us)
     else sign_piece (sign_at (u ∷ us))
 
 -- ---- tokens

@@ -1,0 +1,5 @@
+pub mod Comments
+pub mod Digits
+pub mod LexLoop
+pub mod Placed
+pub mod TextLoop

@@ -1,0 +1,14 @@
+use Rattle.std.proofs.Common.{◌≡◌, ◌+◌, ◌<◌, ◌≤◌, length}
+use Rattle.js_grammar.specs.Units.{place_after}
+use Rattle.js_lexer.proofs.units.place_after.Given as goal
+
+abbrev pub invariant-loop-rest : goal.invariant-loop-rest
+invariant-loop-rest l = record {
+  line : l.line + length l.rest ≤ l.fn.place.line + length l.units;
+  column : l.column + length l.rest ≤ l.fn.place.column + length l.units;
+  first : 0 < l.column;
+  same : place_after (record { line = l.line; column = l.column }) l.rest ≡ place_after l.fn.place l.units;
+}
+
+abbrev pub decreases-loop-rest : goal.decreases-loop-rest
+decreases-loop-rest l = length l.rest
