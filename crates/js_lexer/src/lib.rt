@@ -15,3 +15,6 @@ mod words;
 
 pub use lexer::lex;
 pub use words::keyword_of;
+
+#[cfg(test)]
+mod tests;

@@ -33,3 +33,6 @@ pub use statement::{
 };
 pub use token::{Token, TokenKind};
 pub use tree_list::TreeList;
+
+#[cfg(test)]
+mod tests;
