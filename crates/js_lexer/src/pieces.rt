@@ -27,6 +27,9 @@ const SLASH: u16 = 0x2F;
 
 const STAR: u16 = 0x2A;
 
+/// A token, or none for white space and comments; and how many units it has.
+type Piece = (Option<TokenKind>, usize);
+
 /// How many units there are up to the next `*/`, which is among them.
 fn comment_length(units: &[u16]) -> Option<usize>
     ensures value { result ≡ spec.comment_length units.now }
@@ -44,7 +47,7 @@ fn comment_length(units: &[u16]) -> Option<usize>
     None
 }
 
-fn sign_piece(place: Place, units: &[u16]) -> Result<(Option<TokenKind>, usize), ReadAnswer>
+fn sign_piece(place: Place, units: &[u16]) -> Result<Piece, ReadAnswer>
     ensures gives { Gives (λ x. x) result (spec.at_place place (spec.sign_piece (signs.sign_at units.now))) }
     ensures within { IfOk result (λ x. (0 < x.1) × (x.1 ≤ length units.now)) }
 {
@@ -55,11 +58,7 @@ fn sign_piece(place: Place, units: &[u16]) -> Result<(Option<TokenKind>, usize),
 }
 
 /// At a slash, behind the tokens before it: a comment, or a sign where it divides.
-fn slash_piece(
-    place: Place,
-    before: &[Token],
-    units: &[u16],
-) -> Result<(Option<TokenKind>, usize), ReadAnswer>
+fn slash_piece(place: Place, before: &[Token], units: &[u16]) -> Result<Piece, ReadAnswer>
     requires { 0 < length units.now }
     ensures gives { Gives (λ x. x) result (spec.at_place place (spec.slash_piece (spec.divides (reverse before.now)) units.now)) }
     ensures within { IfOk result (λ x. (0 < x.1) × (x.1 ≤ length units.now)) }
@@ -81,7 +80,7 @@ fn slash_piece(
     }
 }
 
-fn word_piece(alloc: Global, units: &[u16]) -> Result<(Option<TokenKind>, usize), Memory>
+fn word_piece(alloc: Global, units: &[u16]) -> Result<Piece, Memory>
     requires { first_passes is_word_part units.now ≡ true }
     ensures value { IfOk result (λ x. spec.word_piece units.now ≡ Ok x) }
     ensures within { IfOk result (λ x. (0 < x.1) × (x.1 ≤ length units.now)) }
@@ -92,7 +91,7 @@ fn word_piece(alloc: Global, units: &[u16]) -> Result<(Option<TokenKind>, usize)
     Ok((Some(TokenKind::Word(word)), count))
 }
 
-fn number_piece(place: Place, units: &[u16]) -> Result<(Option<TokenKind>, usize), ReadAnswer>
+fn number_piece(place: Place, units: &[u16]) -> Result<Piece, ReadAnswer>
     requires { first_passes is_digit units.now ≡ true }
     ensures gives { Gives (λ x. x) result (spec.at_place place (spec.number_piece units.now)) }
     ensures within { IfOk result (λ x. (0 < x.1) × (x.1 ≤ length units.now)) }
@@ -104,12 +103,7 @@ fn number_piece(place: Place, units: &[u16]) -> Result<(Option<TokenKind>, usize
 }
 
 /// A text, behind its first quote.
-fn text_piece(
-    alloc: Global,
-    place: Place,
-    quote: u16,
-    rest: &[u16],
-) -> Result<(Option<TokenKind>, usize), ReadAnswer>
+fn text_piece(alloc: Global, place: Place, quote: u16, rest: &[u16]) -> Result<Piece, ReadAnswer>
     ensures gives { Gives (λ x. x) result (spec.at_place place (spec.text_piece quote rest.now)) }
     ensures within { IfOk result (λ x. (0 < x.1) × (x.1 ≤ length rest.now + 1)) }
 {
@@ -117,15 +111,14 @@ fn text_piece(
     Ok((Some(TokenKind::Text(text)), count + 1))
 }
 
-/// What stands at the front, behind the tokens before it, and how many units it has: a token, or none for white space and
-/// comments. A refusal has the place that is handed in.
+/// What stands at the front, behind the tokens before it. A refusal has the place that is handed in.
 #[tactic(auto, unfolding(js_grammar::specs::Tokens::piece_at))]
 pub fn piece_at(
     alloc: Global,
     place: Place,
     before: &[Token],
     units: &[u16],
-) -> Result<(Option<TokenKind>, usize), ReadAnswer>
+) -> Result<Piece, ReadAnswer>
     requires { 0 < length units.now }
     ensures gives { Gives (λ x. x) result (spec.at_place place (spec.piece_at (spec.divides (reverse before.now)) units.now)) }
     ensures within { IfOk result (λ x. (0 < x.1) × (x.1 ≤ length units.now)) }
@@ -136,8 +129,7 @@ pub fn piece_at(
         return Ok((None, space_length(rest) + 1));
     }
     if is_word_start(unit) {
-        let (word, count) = word_piece(alloc, units)?;
-        return Ok((word, count));
+        return Ok(word_piece(alloc, units)?);
     }
     if is_digit(unit) {
         return number_piece(place, units);
