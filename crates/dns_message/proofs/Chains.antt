@@ -1,10 +1,9 @@
 -- The chain of aliases, step by step.
-use Rattle.std.proofs.Common.{◌≡◌, ℕ, suc, Bool, true, false, List, ◌∷◌, Option, Some, None, refl, sym, ◌∙◌, ap}
+use Rattle.std.proofs.Common.{◌≡◌, ℕ, suc, List, Some, None, ◌∙◌, ap}
 use Rattle.std.specs.Prelude.{IsSome}
-use Rattle.pac_names.specs.declared.answer.Answer.{Answer}
 use Rattle.pac_names.specs.declared.answer.Answer.TheVariants as answer
 use Rattle.dns_name.specs.Wire.{same_labels}
-use Rattle.dns_message.specs.Record.{Fact, Says, Address, Alias, Else, RecordThere, record_at, facts_at}
+use Rattle.dns_message.specs.Record.{Fact, RecordThere, record_at, facts_at}
 use Rattle.dns_message.specs.Reply.{address_in, address_or, alias_in, alias_or, answer_on, followed}
 use Rattle.dns_message.specs.Seen.{facts_known}
 use Rattle.dns_message.proofs.Records.{known_more}

@@ -1,6 +1,6 @@
 -- Questions are read back, and differ.
-use Rattle.std.proofs.Common.{◌≡◌, ℕ, zero, suc, ◌+◌, ◌-◌, ◌^◌, ◌<◌, ◌≤◌, Bool, true, false, cond, ◌&&◌, ◌||◌, ◌==◌, leb, eqb, List, [], ◌∷◌, ◌++◌, length, take, drop, get_or, map, Option, Some, None, refl, sym, ◌∙◌, ap, subst, arith, slice_range}
-use Rattle.std.specs.Prelude.{IsSome, IsTrue, is_some}
+use Rattle.std.proofs.Common.{◌≡◌, ℕ, suc, ◌+◌, ◌-◌, ◌^◌, ◌<◌, Bool, true, false, cond, ◌&&◌, ◌||◌, ◌==◌, leb, List, [], ◌∷◌, ◌++◌, length, take, drop, get_or, map, Option, Some, None, refl, sym, ◌∙◌, ap, arith, slice_range}
+use Rattle.std.specs.Prelude.{IsSome, is_some}
 use Rattle.std.specs.List.{flat_map, list_all, onto_first, join_with_byte}
 use Rattle.std.specs.Char.{to_ascii_lowercase}
 use Rattle.std.proofs.lemmas.Bool.{and_parts, and_from, le-leb, eq-eqb, ne_eqb, false≢true}
@@ -11,9 +11,8 @@ use Rattle.byteorder.specs.Endian.{big_number}
 use Rattle.byteorder.specs.Numbers.{big_number-reads_back}
 use Rattle.pac_names.specs.Labels.{labels_of, labels_length}
 use Rattle.pac_names.specs.Names.{is_label, is_lookup_name, is_name_letter, kept_name, lookup_name_of, without_final_dot}
-use Rattle.pac_names.specs.Quads.{groups_of}
 use Rattle.pac_names.proofs.LabelLaws.{is_dot, labels-cons, labels_length-labels_of, letters_from_labels}
-use Rattle.dns_name.specs.Wire.{WireName, name_at}
+use Rattle.dns_name.specs.Wire.{WireName}
 use Rattle.dns_name.specs.Writing.{wire_label, wire_name}
 use Rattle.dns_name.proofs.WireLaws.{length-wire_name}
 use Rattle.dns_message.specs.Dotted.{dotted}
@@ -25,7 +24,6 @@ use Rattle.dns_message.specs.Reply.{answer_behind, reply_of}
 use Rattle.dns_message.specs.Seen.{name_there}
 use Rattle.dns_message.proofs.Replies.{asked_name}
 use Rattle.dns_message.proofs.RoundTrip.{AsksFor, asked_there, proper}
-use Rattle.pac_names.specs.declared.answer.Answer.{Answer}
 
 -- the labels of a name, joined by dots, are the name
 pub joined_labels : (name : List ℕ) → join_with_byte 46 (labels_of name) ≡ name

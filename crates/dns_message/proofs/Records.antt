@@ -1,13 +1,11 @@
 -- Records one after the other.
-use Rattle.std.proofs.Common.{◌≡◌, ℕ, zero, suc, ◌+◌, ◌-◌, ◌<◌, ◌≤◌, Bool, true, false, cond, leb, eqb, List, [], ◌∷◌, length, Option, Some, None, refl, sym, ◌∙◌, ap, subst, arith}
+use Rattle.std.proofs.Common.{◌≡◌, ℕ, suc, ◌+◌, ◌<◌, ◌≤◌, Bool, true, false, cond, leb, List, ◌∷◌, length, Option, Some, None, refl, sym, ◌∙◌, ap, subst, arith}
 use Rattle.std.specs.Prelude.{IsSome, IfSome, is_some}
 use Rattle.std.proofs.lemmas.Bool.{leb-true, le-leb, lt-leb, false≢true}
 use Rattle.dns_name.specs.Wire.{WireName, name_at, labels_at, lowered, lowered_of, behind_of, is_same_name, are_same, same_labels}
 use Rattle.dns_message.specs.Numbers.{number_at}
 use Rattle.dns_message.specs.Record.{Fact, Says, RecordThere, record_at, record_from, facts_at, facts_behind, onto_facts, says_of, there}
-use Rattle.dns_message.specs.Seen.{data_seen, facts_known, IsThere, labels_known, name_there, record_seen, says_seen, seen}
-use Rattle.dns_message.specs.declared.record.Record.{Record}
-use Rattle.dns_message.specs.declared.record.Data.{Data}
+use Rattle.dns_message.specs.Seen.{facts_known, IsThere, labels_known, name_there}
 
 -- one record less
 pub facts_more : (n k : ℕ) (message : List ℕ) (at : ℕ) (r : RecordThere) → n ≡ suc k → record_at message at ≡ Some r

@@ -1,11 +1,10 @@
 -- What a datagram's header, question and records make of it as a reply.
-use Rattle.std.proofs.Common.{◌≡◌, ℕ, ◌+◌, ◌<◌, ◌≤◌, Bool, true, false, cond, ◌&&◌, ◌==◌, leb, eqb, List, length, Option, Some, None, refl, sym, ◌∙◌, ap, subst, arith}
-use Rattle.std.specs.Prelude.{IsSome, is_some}
+use Rattle.std.proofs.Common.{◌≡◌, ℕ, ◌<◌, ◌≤◌, Bool, true, false, cond, ◌&&◌, ◌==◌, leb, List, length, Option, Some, None, refl, sym, ◌∙◌, ap}
+use Rattle.std.specs.Prelude.{is_some}
 use Rattle.std.proofs.lemmas.Bool.{and_left, and_right, and_from, le-leb, lt-leb, eq-eqb, ne_eqb, false≢true}
 use Rattle.pac_names.specs.Labels.{labels_of}
-use Rattle.pac_names.specs.declared.answer.Answer.{Answer}
 use Rattle.pac_names.specs.declared.answer.Answer.TheVariants as answer
-use Rattle.dns_name.specs.Wire.{are_labels, labels_at, name_at, behind_of, spells_name}
+use Rattle.dns_name.specs.Wire.{are_labels, labels_at, name_at, behind_of}
 use Rattle.dns_name.proofs.SameLaws.{labels_same}
 use Rattle.dns_message.specs.Header.{header_of, is_response_to}
 use Rattle.dns_message.specs.Question.{question_end, question_from}

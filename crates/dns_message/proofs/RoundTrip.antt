@@ -1,31 +1,28 @@
 -- What is written as a reply is a reply, with its answer.
-use Rattle.std.proofs.Common.{◌≡◌, ℕ, zero, suc, ◌+◌, ◌-◌, ◌*◌, ◌/◌, ◌%◌, ◌^◌, ◌<◌, ◌≤◌, Bool, true, false, cond, ◌&&◌, ◌||◌, ◌==◌, leb, ltb, eqb, List, [], ◌∷◌, ◌++◌, length, take, drop, get_or, map, Option, Some, None, refl, sym, ◌∙◌, ap, subst, arith}
-use Rattle.std.specs.Prelude.{IsTrue, is_some}
+use Rattle.std.proofs.Common.{◌≡◌, ℕ, ◌+◌, ◌^◌, ◌<◌, ◌≤◌, Bool, true, false, cond, ◌&&◌, leb, List, [], ◌∷◌, ◌++◌, length, take, drop, Option, Some, None, refl, sym, ◌∙◌, ap, subst, arith}
 use Rattle.std.specs.List.{list_all}
 use Rattle.std.proofs.lemmas.Bool.{and_parts, and_from, eq-eqb, leb-true, le-leb}
-use Rattle.std.proofs.lemmas.Bool.Decides.{nat_tests}
-use Rattle.std.proofs.lemmas.List.{append_assoc, length-append, length-drop, drop-drop, drop_at, get_or-drop, append-nil}
-use Rattle.byteorder.specs.Endian.{big_bytes, big_number}
+use Rattle.std.proofs.lemmas.List.{append_assoc, length-drop, drop-drop, drop_at, append-nil}
+use Rattle.byteorder.specs.Endian.{big_number}
 use Rattle.byteorder.specs.Numbers.{big_number-reads_back}
 use Rattle.pac_names.specs.Labels.{labels_of}
 use Rattle.pac_names.specs.Names.{is_label, is_lookup_name}
 use Rattle.pac_names.specs.declared.answer.Answer.{Answer}
 use Rattle.pac_names.specs.declared.answer.Answer.TheVariants as answer
-use Rattle.dns_name.specs.Wire.{WireName, are_labels, behind_of, labels_at, lowered, lowered_of, name_at, part_at, same_labels, spells_name, target_at, with_behind, within_limit}
+use Rattle.dns_name.specs.Wire.{WireName, are_labels, behind_of, labels_at, lowered, lowered_of, name_at, same_labels, spells_name}
 use Rattle.dns_name.specs.Writing.{overwritten, wire_name}
 use Rattle.dns_name.proofs.SameLaws.{label_is_low, same_labels-refl}
-use Rattle.dns_name.proofs.WireLaws.{wire_name_at, name_at_pointer, length-wire_name}
+use Rattle.dns_name.proofs.WireLaws.{wire_name_at, name_at_pointer}
 use Rattle.dns_message.specs.Header.{header_octets, header_of, is_response_to, response_header}
-use Rattle.dns_message.specs.Numbers.{address_at, number_at, number_octets}
+use Rattle.dns_message.specs.Numbers.{address_at, number_at}
 use Rattle.dns_message.specs.Question.{asked_octets, asks_address, question_end, question_from}
-use Rattle.dns_message.specs.Record.{Address, Fact, RecordThere, Says, facts_at, record_at, says_of, there}
-use Rattle.dns_message.specs.Reply.{address_or, alias_in, alias_or, answer_behind, answer_in, answer_octets, answer_on, reply_octets, reply_of}
+use Rattle.dns_message.specs.Record.{Address, facts_at, record_at, says_of, there}
+use Rattle.dns_message.specs.Reply.{address_or, alias_in, alias_or, answer_in, answer_octets, answer_on, reply_octets, reply_of}
 use Rattle.dns_message.specs.Seen.{labels_known, name_there}
 use Rattle.dns_message.proofs.Chains.{answer_ends}
 use Rattle.dns_message.proofs.Records.{facts_more, record_by}
 use Rattle.dns_message.proofs.Writes.{length_answer, length_message, told_front, written_answer, written_message}
 use Rattle.dns_message.proofs.Replies.{a_response, name_error, no_error}
-use Rattle.dns_message.specs.declared.header.Header.{Header}
 
 -- the labels of a lookup name are in lower case
 pub low_labels : (labels : List (List ℕ)) → list_all is_label labels ≡ true → lowered labels ≡ labels

@@ -1,7 +1,7 @@
 -- Writing on, number after number.
-use Rattle.std.proofs.Common.{◌≡◌, ℕ, ◌+◌, ◌-◌, ◌≤◌, List, [], ◌++◌, length, take, drop, refl, sym, ◌∙◌, ap, arith}
+use Rattle.std.proofs.Common.{◌≡◌, ℕ, ◌+◌, ◌-◌, ◌≤◌, List, [], ◌++◌, length, take, drop, sym, ◌∙◌, ap, arith}
 use borrow.Rule.Slice.PartMut.{put_mid}
-use Rattle.std.proofs.lemmas.List.{length-append, length-drop, length-take, append_assoc, drop-drop, take_all, take_at, drop_all, append-nil}
+use Rattle.std.proofs.lemmas.List.{length-append, length-drop, append_assoc, drop-drop, take_all, take_at, drop_all, append-nil}
 use Rattle.dns_name.specs.Writing.{overwritten}
 use Rattle.dns_name.proofs.WriteLaws.{overwritten-overwritten}
 

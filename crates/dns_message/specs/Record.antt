@@ -1,6 +1,6 @@
 -- Resource records (RFC 1035, section 4.1.3), and what they say of their names.
-use Rattle.std.specs.Prelude.{ℕ, zero, suc, ◌+◌, List, [], ◌∷◌, Bool, true, false, ◌==◌, nat_le, length, if◌then◌else◌, Option, Some, None, unwrap_or}
-use Rattle.dns_name.specs.Wire.{WireName, name_at, labels_at, lowered}
+use Rattle.std.specs.Prelude.{ℕ, zero, suc, ◌+◌, List, [], ◌∷◌, ◌==◌, nat_le, length, if◌then◌else◌, Option, Some, None}
+use Rattle.dns_name.specs.Wire.{WireName, name_at, lowered}
 use Rattle.dns_message.specs.Numbers.{number_at, address_at}
 use Rattle.dns_message.specs.Question.{type_a, type_cname, class_in}
 

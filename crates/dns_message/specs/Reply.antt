@@ -9,7 +9,7 @@ use Rattle.byteorder.specs.Endian.{big_bytes}
 use Rattle.dns_message.specs.Header.{header_of, header_octets, response_header, is_response_to}
 use Rattle.dns_message.specs.Numbers.{number_octets}
 use Rattle.dns_message.specs.Question.{asked_octets, question_end, type_a, class_in}
-use Rattle.dns_message.specs.Record.{Fact, Says, Address, Alias, Else, facts_at}
+use Rattle.dns_message.specs.Record.{Fact, Says, Address, Alias, facts_at}
 use Rattle.dns_message.specs.declared.header.Header.{Header}
 
 -- the address, where the record is one of the name

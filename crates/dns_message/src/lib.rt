@@ -12,6 +12,8 @@ mod query;
 mod question;
 mod record;
 mod reply;
+#[cfg(test)]
+mod tests;
 
 pub use laws::{one_name_replied, questions_differ};
 pub use query::{read_query, write_query};

@@ -73,14 +73,13 @@ fn read_data(message: &[u8], fields: usize, rdlength: usize) -> Option<Data>
     ensures { data_seen message.now result ≡ says_of message.now (number_at message.now fields) (number_at message.now (fields + 2)) (fields + 10) rdlength }
 {
     let data = fields + 10;
-    if read_u16(message, fields + 2) != CLASS_IN {
-        return Some(Data::Other);
-    }
-    match read_u16(message, fields) {
-        TYPE_A if rdlength == 4 => Some(Data::Address(read_u32(message, data))),
-        TYPE_A => None,
-        TYPE_CNAME if skip_name(message, data) == Some(data + rdlength) => Some(Data::Alias(data)),
-        TYPE_CNAME => None,
+    match (read_u16(message, fields + 2), read_u16(message, fields)) {
+        (CLASS_IN, TYPE_A) if rdlength == 4 => Some(Data::Address(read_u32(message, data))),
+        (CLASS_IN, TYPE_A) => None,
+        (CLASS_IN, TYPE_CNAME) if skip_name(message, data) == Some(data + rdlength) => {
+            Some(Data::Alias(data))
+        }
+        (CLASS_IN, TYPE_CNAME) => None,
         _ => Some(Data::Other),
     }
 }
@@ -115,12 +114,9 @@ fn known_data(message: &[u8], fields: usize, rdlength: usize) -> Data
     ensures data { says_of message.now (number_at message.now fields) (number_at message.now (fields + 2)) (fields + 10) rdlength ≡ Some (says_seen message.now result) }
     ensures target { IsNameOf message.now result }
 {
-    if read_u16(message, fields + 2) != CLASS_IN {
-        return Data::Other;
-    }
-    match read_u16(message, fields) {
-        TYPE_A => Data::Address(read_u32(message, fields + 10)),
-        TYPE_CNAME => Data::Alias(fields + 10),
+    match (read_u16(message, fields + 2), read_u16(message, fields)) {
+        (CLASS_IN, TYPE_A) => Data::Address(read_u32(message, fields + 10)),
+        (CLASS_IN, TYPE_CNAME) => Data::Alias(fields + 10),
         _ => Data::Other,
     }
 }

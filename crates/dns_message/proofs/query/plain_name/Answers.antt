@@ -1,9 +1,6 @@
-use Rattle.std.proofs.Common.{◌≡◌, ◌-◌, List, ℕ, [], ◌∷◌, length, slice_range, ◌∙◌, sym, ap, arith}
+use Rattle.std.proofs.Common.{◌∙◌, sym, ap, arith}
 use Rattle.std.proofs.lemmas.List.{nil_from_length}
-use Rattle.std.specs.List.{flat_map}
-use Rattle.pac_names.specs.Labels.{labels_of}
 use Rattle.pac_names.specs.Names.{lookup_name_of}
-use Rattle.dns_name.specs.Writing.{wire_label}
 use Rattle.dns_message.proofs.QueryLaws.{length_of_question, name_of_name, plain_is_name, plain_is_some, plain_labels}
 use Rattle.dns_message.proofs.RoundTrip.{proper}
 use Rattle.dns_message.proofs.query.plain_name.Goals as goal

@@ -1,4 +1,4 @@
-use Rattle.std.proofs.Common.{◌≡◌, List, ℕ, Some, ◌∙◌, sym, ap}
+use Rattle.std.proofs.Common.{List, ℕ, Some, ◌∙◌, sym}
 use Rattle.std.proofs.lemmas.Bool.{false≢true}
 use Rattle.dns_name.proofs.SameLaws.{bytes_same, same_bytes}
 use Rattle.dns_message.specs.Question.{question_octets}

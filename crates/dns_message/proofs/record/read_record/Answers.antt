@@ -1,4 +1,4 @@
-use Rattle.std.proofs.Common.{◌+◌, Some, None, ◌∙◌, sym, ap, arith}
+use Rattle.std.proofs.Common.{Some, None, ◌∙◌, sym, ap, arith}
 use Rattle.dns_message.specs.Seen.{says_seen, seen}
 use Rattle.dns_message.proofs.Records.{record_read, record_no_name, record_no_fields, record_no_data}
 use Rattle.dns_message.proofs.record.read_record.Goals as goal

@@ -1,5 +1,4 @@
 use Rattle.std.proofs.Common.{Some, ◌∙◌, sym, ap}
-use Rattle.pac_names.specs.declared.answer.Answer.{Answer}
 use Rattle.dns_message.specs.Record.{facts_at}
 use Rattle.dns_message.proofs.Replies.{no_header, no_response, a_response, no_question, name_error, no_error, not_readable, readable_answer}
 use Rattle.dns_message.proofs.reply.read_reply.Goals as goal

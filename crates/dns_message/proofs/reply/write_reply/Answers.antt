@@ -1,4 +1,4 @@
-use Rattle.std.proofs.Common.{List, ℕ, ◌∙◌, ap, arith}
+use Rattle.std.proofs.Common.{◌∙◌, ap, arith}
 use Rattle.pac_names.specs.declared.answer.Answer.TheVariants as answer
 use Rattle.dns_name.specs.Writing.{overwritten}
 use Rattle.dns_message.specs.Header.{header_octets}
