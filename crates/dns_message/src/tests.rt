@@ -35,6 +35,13 @@ fn name(text: &[u8]) -> Result<LookupName, &'static str> {
     LookupName::from_bytes(text).ok_or("a name")
 }
 
+// The first octets of a buffer.
+fn front(buffer: &[u8; 512], count: usize) -> &[u8]
+    requires { count ≤ 512 }
+{
+    &buffer[..count]
+}
+
 fn changed(at: usize, octets: &[u8]) -> [u8; 45]
     requires { at + length octets.now ≤ 45 }
 {
@@ -83,8 +90,8 @@ fn changed_replies(rt: HostRuntime) -> Result<(), Fail> {
         (39, b"\x00\x03", None),
         (39, b"\xff\xff", None),
     ] {
-        assert!(rt; at < 32 || at < 40 && octets.len() < 4);
-        assert!(rt; octets.len() < 13);
+        assert!(rt; at <= 45);
+        assert!(rt; octets.len() <= 45 - at);
         let answer = read_reply(&changed(at, octets), 0x1234, &example);
         assert_eq!(rt; answer, want, "{octets:?} at {at}");
     }
@@ -106,15 +113,17 @@ fn whole_and_cut_replies(rt: HostRuntime) -> Result<(), Fail> {
 
     let mut buffer = [0xee; 512];
     assert_eq!(rt; write_reply(&mut buffer, 0x1234, &example, ADDRESS), 45);
-    assert!(rt; &buffer[..45] == REPLY.as_slice());
+    assert!(rt; front(&buffer, 45) == REPLY.as_slice());
     assert_eq!(rt; buffer[45], 0xee);
     assert_eq!(rt;
         write_reply(&mut buffer, 0x1234, &example, Answer::NoAddress),
         29
     );
-    assert!(rt; &buffer[..12] == b"\x12\x34\x81\x83\x00\x01\x00\x00\x00\x00\x00\x00".as_slice());
+    assert!(rt;
+        front(&buffer, 12) == b"\x12\x34\x81\x83\x00\x01\x00\x00\x00\x00\x00\x00".as_slice()
+    );
     assert_eq!(rt;
-        read_reply(&buffer[..29], 0x1234, &example),
+        read_reply(front(&buffer, 29), 0x1234, &example),
         Some(Answer::NoAddress)
     );
     Ok(())
@@ -179,7 +188,7 @@ fn questions(rt: HostRuntime) -> Result<(), Fail> {
     let example = name(b"example.com")?;
     let mut buffer = [0xee; 512];
     assert_eq!(rt; write_query(&mut buffer, 0x1234, &example), 29);
-    assert!(rt; &buffer[..29] == QUESTION.as_slice());
+    assert!(rt; front(&buffer, 29) == QUESTION.as_slice());
     assert_eq!(rt; buffer[29], 0xee);
     let (id, asked) = read_query(&QUESTION).ok_or("a question")?;
     assert_eq!(rt; id, 0x1234);
@@ -192,7 +201,7 @@ fn questions(rt: HostRuntime) -> Result<(), Fail> {
         assert!(rt; read_query(&other).is_none(), "{at}");
     }
     assert!(rt; read_query(&QUESTION[..28]).is_none());
-    assert!(rt; read_query(&buffer[..30]).is_none());
+    assert!(rt; read_query(front(&buffer, 30)).is_none());
     assert!(rt; read_query(&[]).is_none());
     Ok(())
 }

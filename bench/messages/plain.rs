@@ -1,0 +1,154 @@
+// The readings of `crates/bench_messages` in a few lines of plain Rust: the same checks, the same answers.
+
+fn u16_at(m: &[u8], at: usize) -> Option<usize> {
+    Some(usize::from(*m.get(at)?) * 256 + usize::from(*m.get(at + 1)?))
+}
+
+/// The next label of a name, empty at its end. `piece` is where the present piece begins.
+fn label<'a>(m: &'a [u8], piece: &mut usize, at: &mut usize) -> Option<&'a [u8]> {
+    loop {
+        match usize::from(*m.get(*at)?) {
+            n @ 0..=63 => {
+                let label = m.get(*at + 1..*at + 1 + n)?;
+                *at += 1 + n;
+                return Some(label);
+            }
+            n @ 192.. => {
+                let target = (n - 192) * 256 + usize::from(*m.get(*at + 1)?);
+                if target >= *piece {
+                    return None;
+                }
+                (*piece, *at) = (target, target);
+            }
+            _ => return None,
+        }
+    }
+}
+
+/// The offset behind a name.
+fn skip(m: &[u8], start: usize) -> Option<usize> {
+    let (mut piece, mut at, mut length) = (start, start, 0);
+    loop {
+        let n = label(m, &mut piece, &mut at)?.len();
+        length += n + 1;
+        if length > 255 {
+            return None;
+        }
+        if n == 0 {
+            break;
+        }
+    }
+    let mut end = start;
+    loop {
+        match usize::from(m[end]) {
+            0 => return Some(end + 1),
+            n if n < 64 => end += 1 + n,
+            _ => return Some(end + 2),
+        }
+    }
+}
+
+fn same(m: &[u8], a: usize, b: usize) -> bool {
+    let (mut pa, mut a, mut pb, mut b) = (a, a, b, b);
+    loop {
+        match (label(m, &mut pa, &mut a), label(m, &mut pb, &mut b)) {
+            (Some(x), Some(y)) if x.eq_ignore_ascii_case(y) => {
+                if x.is_empty() {
+                    return true;
+                }
+            }
+            _ => return false,
+        }
+    }
+}
+
+fn spells(m: &[u8], at: usize, name: &str) -> bool {
+    let (mut piece, mut at) = (at, at);
+    name.split('.').chain([""]).all(|want| {
+        label(m, &mut piece, &mut at).is_some_and(|l| l.eq_ignore_ascii_case(want.as_bytes()))
+    })
+}
+
+struct Record {
+    name: usize,
+    kind: usize,
+    data: usize,
+}
+
+fn read_reply(m: &[u8], id: u16, name: &str) -> Option<Option<u32>> {
+    let (flags, rcode) = (u16_at(m, 2)?, u16_at(m, 2)? % 16);
+    if u16_at(m, 0)? != usize::from(id) || flags & 0xfa00 != 0x8000 || u16_at(m, 4)? != 1 || m.len() < 12 {
+        return None;
+    }
+    if rcode != 0 && rcode != 3 || !spells(m, 12, name) {
+        return None;
+    }
+    let mut at = skip(m, 12)?;
+    if u16_at(m, at)? != 1 || u16_at(m, at + 2)? != 1 {
+        return None;
+    }
+    if rcode == 3 {
+        return Some(None);
+    }
+    at += 4;
+    let mut records = Vec::new();
+    for _ in 0..u16_at(m, 6)? {
+        let fields = skip(m, at)?;
+        let (kind, class, length) = (u16_at(m, fields)?, u16_at(m, fields + 2)?, u16_at(m, fields + 8)?);
+        let data = fields + 10;
+        m.get(data..data + length)?;
+        if class == 1 && kind == 1 && length != 4 || class == 1 && kind == 5 && skip(m, data)? != data + length {
+            return None;
+        }
+        if class == 1 {
+            records.push(Record { name: at, kind, data });
+        }
+        at = data + length;
+    }
+    let mut present = 12;
+    for _ in 0..16 {
+        match records.iter().find(|r| r.kind == 5 && same(m, present, r.name)) {
+            Some(alias) => present = alias.data,
+            None => break,
+        }
+    }
+    let address = records.iter().find(|r| r.kind == 1 && same(m, present, r.name));
+    Some(address.map(|r| u32::from_be_bytes(m[r.data..r.data + 4].try_into().unwrap())))
+}
+
+fn read_often(mut m: Vec<u8>, name: &str, count: u32) -> u64 {
+    let mut sum = 0u64;
+    for turn in 0..count {
+        let id = (turn % 256) as u16;
+        m[1] = id as u8;
+        if let Some(Some(address)) = read_reply(&m, id, name) {
+            sum = sum.wrapping_add(u64::from(address));
+        }
+    }
+    sum
+}
+
+fn plain() -> Vec<u8> {
+    let mut m = b"\0\0\x81\x80\0\x01\0\x01\0\0\0\0\x07example\x03com\0\0\x01\0\x01".to_vec();
+    m.extend(b"\xc0\x0c\0\x01\0\x01\0\0\0\x3c\0\x04\x5d\xb8\xd8\x22");
+    m
+}
+
+fn chain() -> Vec<u8> {
+    let mut m = b"\0\0\x81\x80\0\x01\0\x11\0\0\0\0\x01a\0\0\x01\0\x01".to_vec();
+    m.extend(b"\x01q\0\0\x01\0\x01\0\0\0\x3c\0\x04\x0a\0\0\x09");
+    for target in (b'b'..=b'q').rev() {
+        m.extend([1, target - 1, 0, 0, 5, 0, 1, 0, 0, 0, 60, 0, 3, 1, target, 0]);
+    }
+    m
+}
+
+fn main() {
+    let words: Vec<String> = std::env::args().collect();
+    let count = words[2].parse().unwrap();
+    let sum = match words[1].as_str() {
+        "plain" => read_often(plain(), "example.com", count),
+        _ => read_often(chain(), "a", count),
+    };
+    println!("{sum}");
+}

@@ -1,0 +1,74 @@
+// The replies that are read. The number in the datagram changes from one reading to the next.
+use dns_message::{read_reply, write_reply};
+use pac_names::{Answer, LookupName};
+
+/// Reads the reply with one address of example.com, so often.
+pub(crate) fn read_plain(count: u32) -> u64 {
+    let Some(name) = LookupName::from_bytes(b"example.com") else {
+        return 0;
+    };
+    let mut buffer = [0; 512];
+    let length = write_reply(&mut buffer, 0, &name, Answer::Address(0x5db8d822));
+    if length < 12 || length > 512 {
+        return 0;
+    }
+    read_often(&mut buffer[..length], &name, count)
+}
+
+/// Reads a chain of 16 aliases from the name `a`, each record before the one that leads to it, so often.
+pub(crate) fn read_chain(count: u32) -> u64 {
+    let Some(name) = LookupName::from_bytes(b"a") else {
+        return 0;
+    };
+    let mut datagram = [0; 292];
+    datagram[..12].copy_from_slice(&[0, 0, 0x81, 0x80, 0, 1, 0, 17, 0, 0, 0, 0]);
+    datagram[12..19].copy_from_slice(&[1, b'a', 0, 0, 1, 0, 1]);
+    datagram[19..36].copy_from_slice(&[1, b'q', 0, 0, 1, 0, 1, 0, 0, 0, 60, 0, 4, 10, 0, 0, 9]);
+    for step in 0..16 {
+        write_alias(&mut datagram, step);
+    }
+    read_often(&mut datagram, &name, count)
+}
+
+// The alias that the chain's step so far from its end goes by.
+fn write_alias(datagram: &mut [u8; 292], step: u8) {
+    if step < 16 {
+        let at = 36 + 16 * step as usize;
+        let target = b'q' - step;
+        let record = [
+            1,
+            target - 1,
+            0,
+            0,
+            5,
+            0,
+            1,
+            0,
+            0,
+            0,
+            60,
+            0,
+            3,
+            1,
+            target,
+            0,
+        ];
+        datagram[at..at + 16].copy_from_slice(&record);
+    }
+}
+
+// The sum of the addresses that readings under the numbers 0, 1 and so on give.
+fn read_often(datagram: &mut [u8], name: &LookupName, count: u32) -> u64 {
+    let mut sum: u64 = 0;
+    for turn in 0..count {
+        let id = (turn % 256) as u16;
+        if datagram.len() < 2 {
+            return sum;
+        }
+        datagram[1] = id as u8;
+        if let Some(Answer::Address(address)) = read_reply(datagram, id, name) {
+            sum = sum.wrapping_add(u64::from(address));
+        }
+    }
+    sum
+}
