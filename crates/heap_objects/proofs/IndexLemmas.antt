@@ -20,7 +20,7 @@ use Rattle.heap_objects.specs.Places.{without_name, IsIndexOf, Updated}
 abbrev Numbered : Type 0
 Numbered = List (ℕ × (List ℕ × Property))
 
-same_name : (m n : List ℕ) → bytes_eq m n ≡ true → m ≡ n
+pub same_name : (m n : List ℕ) → bytes_eq m n ≡ true → m ≡ n
 same_name m n same = (bytes_eq-Decides m n).0 same
 
 bytes_eq-self : (n : List ℕ) → bytes_eq n n ≡ true

@@ -4,8 +4,11 @@
 //! deleted in steps that grow with the logarithm of their number. It stands on the values.
 #![tactic(auto)]
 
+mod listing;
 mod names;
 mod ordered;
+mod properties;
 mod row;
 
 pub use names::array_index;
+pub use properties::Properties;

@@ -1,18 +1,19 @@
 // Many properties, each under its number in the order of creation.
-ghost use Rattle.std.specs.Prelude.{◌≡◌, [], Some, None, OnOk, OnErr};
+ghost use Rattle.std.specs.Prelude.{◌≡◌, [], Some, None, IfOk, OnOk, OnErr};
 ghost use Rattle.std.specs.Option.{option_copied, option_map};
 ghost use Rattle.std.specs.Ordering.{nat_cmp};
-ghost use Rattle.std.specs.BTreeMap.{get, insert_entry, is_at};
+ghost use Rattle.std.specs.BTreeMap.{get, insert_entry, is_at, values};
 ghost use Rattle.std.specs.Map.{remove_entry};
 ghost use Rattle.std.specs.Cmp.Lexicographic.{slice_cmp};
 ghost use Rattle.heap_objects.specs.Places.{Updated};
-ghost use Rattle.heap_objects.specs.Properties.{property_at, with_property, without_property};
+ghost use Rattle.heap_objects.specs.Properties.{property_at, with_property, without_property, listed_names_of};
 
+use crate::listing::{join_names, list_name};
 use heap_values::Property;
 use std::alloc::Global;
 use std::collections::BTreeMap;
 use std::marker::Model;
-use utf16_text::{Memory, Text};
+use utf16_text::{Memory, Text, TextList};
 
 /// Properties with distinct names, seen as a list in the order of creation. Beside them stands an index of their numbers
 /// by name, so that a script can't choose names that are slow.
@@ -102,6 +103,27 @@ impl Ordered {
             }
         }
     }
+
+    /// The names that are listed: array indexes first, rising, then the others in the order of creation.
+    pub(crate) fn listed_names(&self, alloc: Global) -> Result<TextList, Memory>
+        ensures { IfOk result (λ names. names ≡ listed_names_of self.now) }
+    {
+        list_ordered(alloc, &self.properties)
+    }
+}
+
+fn list_ordered(
+    alloc: Global,
+    properties: &BTreeMap<u32, (Text, Property)>,
+) -> Result<TextList, Memory>
+    ensures { IfOk result (λ names. names ≡ listed_names_of (values properties.now)) }
+{
+    let mut indexed = BTreeMap::new(alloc);
+    let mut others = TextList::new(alloc);
+    for entry in properties.values() {
+        list_name(alloc, &mut indexed, &mut others, &entry.0, &entry.1)?;
+    }
+    join_names(alloc, &indexed, &others)
 }
 
 fn put_number(numbers: &mut BTreeMap<Text, u32>, name: Text, number: u32) -> Result<(), Memory>

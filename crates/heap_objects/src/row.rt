@@ -3,7 +3,7 @@ ghost use Rattle.std.specs.Prelude.{◌≡◌, ◌<◌, IfSome, IfNone, OnOk, On
 ghost use Rattle.std.specs.Str.{bytes_eq};
 ghost use Rattle.std.specs.Option.{option_copied};
 ghost use Rattle.heap_objects.specs.Properties.{property_at, with_property, without_property};
-ghost use Rattle.heap_objects.specs.Places.{StandsAt, IsMissing};
+ghost use Rattle.heap_objects.specs.Places.{StandsAt, IsMissing, NamesDiffer};
 
 use heap_values::Property;
 use std::alloc::Global;
@@ -66,7 +66,8 @@ pub(crate) fn set_in_row(
 }
 
 pub(crate) fn remove_in_row(row: &mut Vec<(Text, Property)>, name: &Text)
-    ensures { row.new.items ≡ without_property row.old.items name.now }
+    ensures after { row.new.items ≡ without_property row.old.items name.now }
+    ensures differ { NamesDiffer row.old.items → NamesDiffer row.new.items }
 {
     if let Some(at) = place_in(row, name) {
         let _gone = row.remove(at);
