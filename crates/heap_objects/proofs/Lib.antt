@@ -1,2 +1,4 @@
 pub mod IndexLemmas
+pub mod KeyLemmas
+pub mod ObjectLemmas
 pub mod RowLemmas

@@ -2,3 +2,6 @@ pub mod Names
 pub mod Properties
 pub mod Places
 pub mod Forms
+pub mod Object
+pub mod Scope
+pub mod Keys

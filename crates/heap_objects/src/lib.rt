@@ -5,10 +5,16 @@
 #![tactic(auto)]
 
 mod listing;
+mod name_set;
 mod names;
+mod object;
 mod ordered;
 mod properties;
 mod row;
+mod scope;
 
+pub use name_set::NameSet;
 pub use names::array_index;
+pub use object::Object;
 pub use properties::Properties;
+pub use scope::Scope;

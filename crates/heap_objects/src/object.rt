@@ -1,0 +1,219 @@
+// One object.
+ghost use Rattle.std.specs.Prelude.{◌≡◌, ◌-◌, IfOk, OnOk, OnErr, not, fold};
+ghost use Rattle.std.specs.Option.{option_copied};
+ghost use Rattle.heap_objects.specs.Object.{empty_object, own_found, found_property, is_length, grown_length_of, put_cost_of, property_after, object_after, object_with, can_delete, is_deletable, object_without, object_cut, index_names};
+ghost use Rattle.heap_objects.specs.Properties.{listed_names_of, without_property};
+
+use crate::names::array_index;
+use crate::properties::Properties;
+use heap_values::{Content, Found, Kind, ObjectId, Property, Value, number_text};
+use std::alloc::Global;
+use std::marker::Model;
+use utf16_text::{Memory, Text, TextList};
+use whole_number::Whole;
+
+/// `length`.
+const LENGTH: [u16; 6] = [108, 101, 110, 103, 116, 104];
+
+/// An object: what it is, its properties, its prototype, and the length that an array has.
+#[derive(Drop)]
+pub struct Object {
+    kind: Kind,
+    properties: Properties,
+    prototype: Option<ObjectId>,
+    length: u32,
+}
+
+impl Model for Object {
+    ghost use Rattle.heap_values.specs.Views.{ObjectView};
+
+    ghost Value = { ObjectView };
+
+    ghost view = { λ o. record { kind = o.kind; properties = o.properties; prototype = o.prototype; length = o.length } };
+}
+
+impl Object {
+    /// An object without properties.
+    pub fn new(alloc: Global, kind: Kind, prototype: Option<ObjectId>) -> Object
+        ensures { result ≡ empty_object kind prototype }
+    {
+        Object {
+            kind,
+            properties: Properties::new(alloc),
+            prototype,
+            length: 0,
+        }
+    }
+
+    pub fn kind(&self) -> Kind
+        ensures { result ≡ self.now.kind }
+    {
+        self.kind
+    }
+
+    pub fn prototype(&self) -> Option<ObjectId>
+        ensures { result ≡ self.now.prototype }
+    {
+        self.prototype
+    }
+
+    /// The length of an array; 0 for any other object.
+    pub fn length(&self) -> u32
+        ensures { result ≡ self.now.length }
+    {
+        self.length
+    }
+
+    /// Whether `name` is the length of this object, that is of an array.
+    pub fn is_length(&self, name: &Text) -> bool
+        ensures { result ≡ is_length self.now.kind name.now }
+    {
+        match self.kind {
+            Kind::Array => name.units() == LENGTH.as_slice(),
+            _ => false,
+        }
+    }
+
+    /// What the object itself has under a name (ECMA-262 5.1, section 8.12.1).
+    pub fn find_own(&self, alloc: Global, name: &Text) -> Result<Found, Memory>
+        ensures { IfOk result (λ found. found ≡ own_found self.now name.now) }
+    {
+        if self.is_length(name) {
+            return Ok(Found::Value(Value::Number(Whole::from(self.length))));
+        }
+        found_under(alloc, self.properties.get(name))
+    }
+
+    /// The length that the object has once something stands under `name`.
+    pub fn grown_length(&self, name: &Text) -> u32
+        ensures { result ≡ grown_length_of self.now name.now }
+    {
+        match self.kind {
+            Kind::Array => match array_index(name) {
+                None => self.length,
+                Some(index) => self.length.max(index + 1),
+            },
+            _ => self.length,
+        }
+    }
+
+    /// The cells that a write under `name` takes.
+    pub fn put_cost(&self, name: &Text) -> u64
+        ensures { result ≡ put_cost_of self.now name.now }
+    {
+        let steps = u64::from(self.grown_length(name)) - u64::from(self.length);
+        match self.properties.get(name) {
+            None => steps + 1,
+            Some(_) => steps,
+        }
+    }
+
+    /// Writes a value under a name that is not the length of an array. A new property is listed and can be deleted.
+    pub fn put(&mut self, alloc: Global, name: &Text, value: Value) -> Result<(), Memory>
+        ensures ok { OnOk result (self.new ≡ object_after self.old name.now value) }
+        ensures unchanged { OnErr result (self.new ≡ self.old) }
+    {
+        let property = written(self.properties.get(name), value);
+        self.define(alloc, name, property)
+    }
+
+    /// Gives a name that is not the length of an array this property.
+    pub fn define(&mut self, alloc: Global, name: &Text, property: Property) -> Result<(), Memory>
+        ensures ok { OnOk result (self.new ≡ object_with self.old name.now property) }
+        ensures unchanged { OnErr result (self.new ≡ self.old) }
+    {
+        let length = self.grown_length(name);
+        self.properties.set(alloc, name, property)?;
+        self.length = length;
+        Ok(())
+    }
+
+    /// Deletes a property. The answer is false where it is there and can't be deleted; then it stays.
+    pub fn delete(&mut self, name: &Text) -> bool
+        ensures answer { result ≡ can_delete self.old name.now }
+        ensures after { self.new ≡ object_without self.old name.now }
+    {
+        if self.is_length(name) || is_fixed(self.properties.get(name)) {
+            return false;
+        }
+        self.properties.remove(name);
+        true
+    }
+
+    /// Sets the length of an array. Where it falls, the elements from there on are deleted.
+    pub fn set_length(&mut self, alloc: Global, size: u32) -> Result<(), Memory>
+        ensures ok { OnOk result (self.new ≡ object_cut self.old size) }
+        ensures unchanged { OnErr result (self.new ≡ self.old) }
+    {
+        let names = names_between(alloc, size, self.length)?;
+        remove_all(&mut self.properties, names.as_slice());
+        self.length = size;
+        Ok(())
+    }
+
+    /// The names of its own that `for`-`in` lists: array indexes first, rising, then the others in the order of creation.
+    pub fn listed_names(&self, alloc: Global) -> Result<TextList, Memory>
+        ensures { IfOk result (λ names. names ≡ listed_names_of self.now.properties) }
+    {
+        self.properties.listed_names(alloc)
+    }
+}
+
+fn found_under(alloc: Global, property: Option<&Property>) -> Result<Found, Memory>
+    ensures { IfOk result (λ found. found ≡ found_property (option_copied property.entry)) }
+{
+    match property {
+        None => Ok(Found::Absent),
+        Some(property) => match &property.content {
+            Content::Value(value) => Ok(Found::Value(value.copy(alloc)?)),
+            Content::LeftOut(text) => Ok(Found::LeftOut(text.copy(alloc)?)),
+        },
+    }
+}
+
+fn written(old: Option<&Property>, value: Value) -> Property
+    ensures { result ≡ property_after (option_copied old.entry) value }
+{
+    let content = Content::Value(value);
+    match old {
+        None => Property {
+            content,
+            listed: true,
+            deletable: true,
+        },
+        Some(property) => Property {
+            content,
+            listed: property.listed,
+            deletable: property.deletable,
+        },
+    }
+}
+
+// Whether there is a property that can't be deleted.
+fn is_fixed(property: Option<&Property>) -> bool
+    ensures { result ≡ not (is_deletable (option_copied property.entry)) }
+{
+    match property {
+        None => false,
+        Some(property) => !property.deletable,
+    }
+}
+
+/// The indexes from `from` up to and without `to`, as names.
+fn names_between(alloc: Global, from: u32, to: u32) -> Result<TextList, Memory>
+    ensures { IfOk result (λ names. names ≡ index_names from (to - from)) }
+{
+    let mut names = TextList::new(alloc);
+    for index in from..to {
+        names.push(alloc, number_text(alloc, Whole::from(index))?)?;
+    }
+    Ok(names)
+}
+
+fn remove_all(properties: &mut Properties, names: &[Text])
+    ensures { properties.new ≡ fold without_property properties.old names.now }
+{
+    for name in names {
+        properties.remove(name);
+    }
+}
