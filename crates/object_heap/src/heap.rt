@@ -1,0 +1,353 @@
+// The heap and its calls.
+ghost use Rattle.std.specs.Prelude.{◌≡◌, ◌<◌, ◌≤◌, ◌+◌, ◌⊎◌, length, slice_get, IfOk, IfErr, OnOk, OnErr, ◌++◌, ◌∷◌, []};
+ghost use Rattle.object_heap.specs.Heap.{object_at, scope_at, kind_in, prototype_in, length_of, found_of, own_found_in, older_of, made_of, scope_made_of, length_put_at, write_cost_of, put_of, defined_of, deleted_of, own_keys_in, keys_of, parent_in, slot_of, slot_written_of, text_spent_of};
+
+use crate::walks::{add_keys_along, find_along};
+use heap_objects::{NameSet, Object, Scope};
+use heap_values::{Content, Found, HeapAnswer, Kind, ObjectId, Property, ScopeId, Value};
+use std::alloc::Global;
+use std::marker::Model;
+use utf16_text::{Memory, Text, TextList};
+
+const MOST_CELLS: u64 = 2_000_000;
+
+const LONGEST_ARRAY: u32 = 100_000;
+
+const LONGEST_TEXT: usize = 262_144;
+
+const MOST_TEXT: u64 = 16_777_216;
+
+/// The heap of a run, seen as its objects and scopes in the order of creation, the cells made and the units of text made.
+#[derive(Drop)]
+pub struct Heap {
+    objects: Vec<Object>,
+    scopes: Vec<Scope>,
+    cells: u64,
+    units: u64,
+}
+
+impl Model for Heap {
+    ghost use Rattle.std.specs.Prelude.{◌≤◌, ◌+◌, length};
+    ghost use Rattle.heap_values.specs.Views.{HeapView};
+
+    ghost Value = { HeapView };
+
+    ghost view = { λ h. record { objects = h.objects.items; scopes = h.scopes.items; cells = h.cells; units = h.units } };
+
+    ghost invariant = { λ h. (h.cells ≤ 2000000) × (h.units ≤ 16777216) × (length h.objects.items ≤ h.cells + 1000) × (length h.scopes.items ≤ h.cells + 1) };
+}
+
+impl Heap {
+    /// What the object is. One that isn't of this heap reads as plain.
+    pub fn kind(&self, object: ObjectId) -> Kind
+        ensures { result ≡ kind_in (object_at self.now object) }
+    {
+        match self.objects.get(object.0 as usize) {
+            None => Kind::Plain,
+            Some(object) => object.kind(),
+        }
+    }
+
+    /// The object's prototype, which is older. None where it has none.
+    pub fn prototype(&self, object: ObjectId) -> Option<ObjectId>
+        ensures { result ≡ prototype_in (object_at self.now object) }
+    {
+        match self.objects.get(object.0 as usize) {
+            None => None,
+            Some(object) => object.prototype(),
+        }
+    }
+
+    /// The length of an array; 0 for any other object.
+    pub fn length(&self, object: ObjectId) -> u32
+        ensures { result ≡ length_of (object_at self.now object) }
+    {
+        match self.objects.get(object.0 as usize) {
+            None => 0,
+            Some(object) => object.length(),
+        }
+    }
+
+    /// The scope around the scope. None where there is none.
+    pub fn parent(&self, scope: ScopeId) -> Option<ScopeId>
+        ensures { result ≡ parent_in (scope_at self.now scope) }
+    {
+        match self.scopes.get(scope.0 as usize) {
+            None => None,
+            Some(scope) => scope.parent(),
+        }
+    }
+
+    /// The cells that this run has made.
+    pub fn cells(&self) -> u64
+        ensures { result ≡ self.now.cells }
+    {
+        self.cells
+    }
+
+    /// What the object, or else the nearest of its prototypes that has the name, has under it (ECMA-262 5.1, section 8.12.2).
+    pub fn get(&self, alloc: Global, object: ObjectId, name: &Text) -> Result<Found, Memory>
+        ensures { IfOk result (λ found. found ≡ found_of self.now object name.now) }
+    {
+        find_along(alloc, &self.objects, object.0, name)
+    }
+
+    /// What the object itself has under a name (ECMA-262 5.1, section 8.12.1).
+    pub fn get_own(&self, alloc: Global, object: ObjectId, name: &Text) -> Result<Found, Memory>
+        ensures { IfOk result (λ found. found ≡ own_found_in (object_at self.now object) name.now) }
+    {
+        match self.objects.get(object.0 as usize) {
+            None => Ok(Found::Absent),
+            Some(object) => object.find_own(alloc, name),
+        }
+    }
+
+    /// Makes an object without properties, which is one cell. A prototype that isn't older is left out.
+    pub fn make(
+        &mut self,
+        alloc: Global,
+        kind: Kind,
+        prototype: Option<ObjectId>,
+    ) -> Result<ObjectId, HeapAnswer>
+        ensures ok { IfOk result (λ id. made_of self.old kind prototype ≡ Ok (id, self.new)) }
+        ensures err { IfErr result (λ e. (e ≡ HeapAnswer.Memory) ⊎ (made_of self.old kind prototype ≡ Err e)) }
+        ensures unchanged { OnErr result (self.new ≡ self.old) }
+    {
+        if self.cells >= MOST_CELLS {
+            return Err(HeapAnswer::HeapFull);
+        }
+        let at = self.objects.len();
+        let made = Object::new(alloc, kind, older(prototype, at));
+        append_object(&mut self.objects, made)?;
+        self.cells += 1;
+        Ok(ObjectId(at as u32))
+    }
+
+    /// Makes a scope of so many slots, each undefined. It is one cell and one for each slot.
+    pub fn make_scope(
+        &mut self,
+        alloc: Global,
+        size: u32,
+        parent: Option<ScopeId>,
+    ) -> Result<ScopeId, HeapAnswer>
+        ensures ok { IfOk result (λ id. scope_made_of self.old size parent ≡ Ok (id, self.new)) }
+        ensures err { IfErr result (λ e. (e ≡ HeapAnswer.Memory) ⊎ (scope_made_of self.old size parent ≡ Err e)) }
+        ensures unchanged { OnErr result (self.new ≡ self.old) }
+    {
+        let cost = u64::from(size) + 1;
+        if self.cells + cost > MOST_CELLS {
+            return Err(HeapAnswer::HeapFull);
+        }
+        let at = self.scopes.len();
+        append_scope(&mut self.scopes, Scope::new(alloc, size, parent)?)?;
+        self.cells += cost;
+        Ok(ScopeId(at as u32))
+    }
+
+    /// Writes a value under a name of the object (ECMA-262 5.1, section 8.12.5). A property that is added is listed and can
+    /// be deleted. A write of an array's `length` sets it; where it falls, the elements from there on are deleted.
+    ///
+    /// ArrayTooLong comes where the length would pass 100,000, HeapFull where the cells would pass 2,000,000, and BadLength
+    /// where a `length` is no whole number from 0.
+    pub fn put(
+        &mut self,
+        alloc: Global,
+        object: ObjectId,
+        name: &Text,
+        value: Value,
+    ) -> Result<(), HeapAnswer>
+        ensures ok { OnOk result (put_of self.old object name.now value ≡ Ok self.new) }
+        ensures err { IfErr result (λ e. (e ≡ HeapAnswer.Memory) ⊎ (put_of self.old object name.now value ≡ Err e)) }
+        ensures unchanged { OnErr result (self.new ≡ self.old) }
+    {
+        let at = object.0 as usize;
+        if at >= self.objects.len() {
+            return Ok(());
+        }
+        if self.objects[at].is_length(name) {
+            return self.put_length(alloc, at, value);
+        }
+        let cost = write_cost(self.cells, &self.objects[at], name)?;
+        let holder = &mut self.objects[at];
+        holder.put(alloc, name, value)?;
+        self.cells += cost;
+        Ok(())
+    }
+
+    /// Adds or replaces a property with these marks. It refuses what `put` refuses, and writes an array's `length` as it.
+    pub fn define(
+        &mut self,
+        alloc: Global,
+        object: ObjectId,
+        name: &Text,
+        value: Value,
+        listed: bool,
+        deletable: bool,
+    ) -> Result<(), HeapAnswer>
+        ensures ok { OnOk result (defined_of self.old object name.now value listed deletable ≡ Ok self.new) }
+        ensures err { IfErr result (λ e. (e ≡ HeapAnswer.Memory) ⊎ (defined_of self.old object name.now value listed deletable ≡ Err e)) }
+        ensures unchanged { OnErr result (self.new ≡ self.old) }
+    {
+        let at = object.0 as usize;
+        if at >= self.objects.len() {
+            return Ok(());
+        }
+        if self.objects[at].is_length(name) {
+            return self.put_length(alloc, at, value);
+        }
+        let cost = write_cost(self.cells, &self.objects[at], name)?;
+        let property = Property {
+            content: Content::Value(value),
+            listed,
+            deletable,
+        };
+        let holder = &mut self.objects[at];
+        holder.define(alloc, name, property)?;
+        self.cells += cost;
+        Ok(())
+    }
+
+    // Sets the length of the array of this number.
+    fn put_length(&mut self, alloc: Global, at: usize, value: Value) -> Result<(), HeapAnswer>
+        requires { at < length self.old.objects }
+        ensures ok { OnOk result (length_put_at self.old at (slice_get self.old.objects at) value ≡ Ok self.new) }
+        ensures err { IfErr result (λ e. (e ≡ HeapAnswer.Memory) ⊎ (length_put_at self.old at (slice_get self.old.objects at) value ≡ Err e)) }
+        ensures unchanged { OnErr result (self.new ≡ self.old) }
+    {
+        let Value::Number(size) = value else {
+            return Err(HeapAnswer::BadLength);
+        };
+        let size = size.get();
+        if size < 0 {
+            return Err(HeapAnswer::BadLength);
+        }
+        if size > i64::from(LONGEST_ARRAY) {
+            return Err(HeapAnswer::ArrayTooLong);
+        }
+        let size = size as u32;
+        let cost = u64::from(size.saturating_sub(self.objects[at].length()));
+        if self.cells + cost > MOST_CELLS {
+            return Err(HeapAnswer::HeapFull);
+        }
+        let holder = &mut self.objects[at];
+        holder.set_length(alloc, size)?;
+        self.cells += cost;
+        Ok(())
+    }
+
+    /// Deletes the property of this name (ECMA-262 5.1, section 8.12.7). The answer is false exactly where it is there and
+    /// can't be deleted; then it stays.
+    pub fn delete(&mut self, object: ObjectId, name: &Text) -> bool
+        ensures answer { result ≡ (deleted_of self.old object name.now).0 }
+        ensures after { self.new ≡ (deleted_of self.old object name.now).1 }
+    {
+        let at = object.0 as usize;
+        if at >= self.objects.len() {
+            return true;
+        }
+        let holder = &mut self.objects[at];
+        holder.delete(name)
+    }
+
+    /// The names that `for`-`in` lists (ECMA-262 5.1, section 12.6.4), in this profile's order: of the object the array
+    /// indexes, rising, then its other names in the order of creation; then those of its prototypes that weren't listed yet.
+    pub fn keys(&self, alloc: Global, object: ObjectId) -> Result<TextList, Memory>
+        ensures { IfOk result (λ names. names ≡ keys_of self.now object) }
+    {
+        let mut names = NameSet::new(alloc);
+        add_keys_along(alloc, &self.objects, object.0, &mut names)?;
+        Ok(names.into_list())
+    }
+
+    /// The same of the object alone.
+    pub fn own_keys(&self, alloc: Global, object: ObjectId) -> Result<TextList, Memory>
+        ensures { IfOk result (λ names. names ≡ own_keys_in (object_at self.now object)) }
+    {
+        match self.objects.get(object.0 as usize) {
+            None => Ok(TextList::new(alloc)),
+            Some(object) => object.listed_names(alloc),
+        }
+    }
+
+    /// The value in a slot; undefined where there is none.
+    pub fn read_slot(&self, alloc: Global, scope: ScopeId, slot: u32) -> Result<Value, Memory>
+        ensures { IfOk result (λ value. value ≡ slot_of self.now scope slot) }
+    {
+        match self.scopes.get(scope.0 as usize) {
+            None => Ok(Value::Undefined),
+            Some(scope) => scope.read(alloc, slot),
+        }
+    }
+
+    /// Writes a slot; nothing changes where there is none.
+    pub fn write_slot(&mut self, scope: ScopeId, slot: u32, value: Value)
+        ensures { self.new ≡ slot_written_of self.old scope slot value }
+    {
+        let at = scope.0 as usize;
+        if at >= self.scopes.len() {
+            return;
+        }
+        let holder = &mut self.scopes[at];
+        holder.write(slot, value);
+    }
+
+    /// Counts a text that is made. StringTooLong comes where it has more than 262,144 units, else TextSpent where the units
+    /// made would pass 16,777,216.
+    pub fn spend_text(&mut self, units: usize) -> Result<(), HeapAnswer>
+        ensures ok { OnOk result (text_spent_of self.old units ≡ Ok self.new) }
+        ensures err { IfErr result (λ e. text_spent_of self.old units ≡ Err e) }
+        ensures unchanged { OnErr result (self.new ≡ self.old) }
+    {
+        if units > LONGEST_TEXT {
+            return Err(HeapAnswer::StringTooLong);
+        }
+        let spent = self.units + units as u64;
+        if spent > MOST_TEXT {
+            return Err(HeapAnswer::TextSpent);
+        }
+        self.units = spent;
+        Ok(())
+    }
+}
+
+// The cells that a write under a name takes, where neither the array would be too long nor the heap full.
+fn write_cost(cells: u64, object: &Object, name: &Text) -> Result<u64, HeapAnswer>
+    requires { cells ≤ 2000000 }
+    ensures cost { result ≡ write_cost_of cells object.now name.now }
+    ensures within { IfOk result (λ cost. cells + cost ≤ 2000000) }
+{
+    if object.grown_length(name) > LONGEST_ARRAY {
+        return Err(HeapAnswer::ArrayTooLong);
+    }
+    let cost = object.put_cost(name);
+    if cells + cost > MOST_CELLS {
+        return Err(HeapAnswer::HeapFull);
+    }
+    Ok(cost)
+}
+
+/// The prototype, where it is older than the object of this number.
+fn older(prototype: Option<ObjectId>, at: usize) -> Option<ObjectId>
+    ensures { result ≡ older_of prototype at }
+{
+    match prototype {
+        None => None,
+        Some(id) => { if (id.0 as usize) < at { Some(id) } else { None } }
+    }
+}
+
+fn append_object(objects: &mut Vec<Object>, made: Object) -> Result<(), Memory>
+    ensures ok { OnOk result (objects.new.items ≡ objects.old.items ++ made ∷ []) }
+    ensures unchanged { OnErr result (objects.new.items ≡ objects.old.items) }
+{
+    objects.push(made)?;
+    Ok(())
+}
+
+fn append_scope(scopes: &mut Vec<Scope>, made: Scope) -> Result<(), Memory>
+    ensures ok { OnOk result (scopes.new.items ≡ scopes.old.items ++ made ∷ []) }
+    ensures unchanged { OnErr result (scopes.new.items ≡ scopes.old.items) }
+{
+    scopes.push(made)?;
+    Ok(())
+}
