@@ -1,5 +1,5 @@
 -- Names of indexes.
-use Rattle.std.proofs.Common.{◌≡◌, ℕ, ◌+◌, ◌-◌, ◌<◌, suc, zero, ◌∷◌, sym, ap, ◌∙◌, arith}
+use Rattle.std.proofs.Common.{◌≡◌, ℕ, ◌+◌, ◌-◌, ◌<◌, suc, ◌∷◌, ap, arith}
 use Rattle.std.specs.Fmt.{decimal}
 use Rattle.heap_objects.specs.Object.{index_names}
 

@@ -1,5 +1,5 @@
 -- What stands at the place of a name.
-use Rattle.std.proofs.Common.{◌≡◌, ℕ, ◌≤◌, ◌+◌, ◌<◌, zero, suc, List, [], ◌∷◌, ◌++◌, true, false, cond, Some, None, slice_get, length, take, get_or, refl, sym, ap, subst, ◌∙◌, arith, ⊎_elim}
+use Rattle.std.proofs.Common.{◌≡◌, ℕ, ◌≤◌, zero, suc, List, [], ◌∷◌, ◌++◌, true, false, cond, Some, None, slice_get, length, take, refl, sym, ap, subst, ◌∙◌, arith, ⊎_elim}
 use Rattle.std.specs.Str.{bytes_eq}
 use Rattle.std.proofs.lemmas.Bool.{cases_Bool}
 use Rattle.utf16_text.specs.Comparing.{texts_equal}

@@ -1,10 +1,12 @@
 // The heap and its calls.
 ghost use Rattle.std.specs.Prelude.{◌≡◌, ◌<◌, ◌≤◌, ◌+◌, ◌⊎◌, length, slice_get, IfOk, IfErr, OnOk, OnErr, ◌++◌, ◌∷◌, []};
+ghost use Rattle.object_heap.specs.Fresh.{fresh_heap, built_in_number};
 ghost use Rattle.object_heap.specs.Heap.{object_at, scope_at, kind_in, prototype_in, length_of, found_of, own_found_in, older_of, made_of, scope_made_of, length_put_at, write_cost_of, put_of, defined_of, deleted_of, own_keys_in, keys_of, parent_in, slot_of, slot_written_of, text_spent_of};
 
+use crate::fresh::{make_built_ins, number_of};
 use crate::walks::{add_keys_along, find_along};
 use heap_objects::{NameSet, Object, Scope};
-use heap_values::{Content, Found, HeapAnswer, Kind, ObjectId, Property, ScopeId, Value};
+use heap_values::{BuiltIn, Content, Found, HeapAnswer, Kind, ObjectId, Property, ScopeId, Value};
 use std::alloc::Global;
 use std::marker::Model;
 use utf16_text::{Memory, Text, TextList};
@@ -38,6 +40,35 @@ impl Model for Heap {
 }
 
 impl Heap {
+    /// The heap in which a run begins: the built-in objects and one outermost scope without names. No cell is counted.
+    pub fn new(alloc: Global) -> Result<Heap, Memory>
+        ensures { IfOk result (λ heap. heap ≡ fresh_heap) }
+    {
+        let objects = make_built_ins(alloc)?;
+        let mut scopes = Vec::new(alloc);
+        append_scope(&mut scopes, Scope::new(alloc, 0, None)?)?;
+        Ok(Heap {
+            objects,
+            scopes,
+            cells: 0,
+            units: 0,
+        })
+    }
+
+    /// The outermost scope.
+    pub fn outer(&self) -> ScopeId
+        ensures { result.0 ≡ 0 }
+    {
+        ScopeId(0)
+    }
+
+    /// A built-in object.
+    pub fn built_in(&self, which: BuiltIn) -> ObjectId
+        ensures { result.0 ≡ built_in_number which }
+    {
+        ObjectId(number_of(which))
+    }
+
     /// What the object is. One that isn't of this heap reads as plain.
     pub fn kind(&self, object: ObjectId) -> Kind
         ensures { result ≡ kind_in (object_at self.now object) }

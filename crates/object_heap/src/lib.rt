@@ -4,7 +4,9 @@
 //! slot that isn't there reads as absent or undefined, and a write there changes nothing. It stands on objects and scopes.
 #![tactic(auto)]
 
+mod fresh;
 mod heap;
+mod table;
 mod walks;
 
 pub use heap::Heap;
