@@ -1,0 +1,4 @@
+pub mod Numeric
+pub mod Operators
+pub mod Texts
+pub mod Units

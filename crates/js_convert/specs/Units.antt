@@ -1,0 +1,26 @@
+-- Runs of digits (ECMA-262 5.1, section 9.3.1).
+use Rattle.std.specs.Prelude.{ℕ, List, [], ◌∷◌, Bool, true, false, ◌&&◌, ◌||◌, not, if◌then◌else◌}
+use Rattle.std.specs.List.{list_all}
+use Rattle.utf16_text.specs.Letters.{is_between}
+
+abbrev pub is_digit : ℕ → Bool
+is_digit u = is_between 48 57 u
+
+abbrev pub is_hex_digit : ℕ → Bool
+is_hex_digit u = is_between 48 57 u || is_between 97 102 u || is_between 65 70 u
+
+abbrev pub is_empty : List ℕ → Bool
+is_empty [] = true
+is_empty (u ∷ us) = false
+
+-- at least one digit, and nothing else
+abbrev pub are_digits : List ℕ → Bool
+are_digits us = not (is_empty us) && list_all is_digit us
+
+abbrev pub are_hex_digits : List ℕ → Bool
+are_hex_digits us = not (is_empty us) && list_all is_hex_digit us
+
+-- without the digits at the front
+abbrev pub behind_digits : List ℕ → List ℕ
+behind_digits [] = []
+behind_digits (u ∷ us) = if is_digit u then behind_digits us else u ∷ us
