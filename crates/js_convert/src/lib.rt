@@ -21,3 +21,6 @@ pub use op::BinaryOp;
 pub use operators::binary;
 pub use order::less;
 pub use texts::to_text;
+
+#[cfg(test)]
+mod tests;
