@@ -1,6 +1,6 @@
 -- Operators on primitive values (ECMA-262 5.1, sections 11.5 to 11.10), cut to whole numbers. Where both operands are at
 -- fault, Range on any side comes first, then Fraction, then not-a-number, then a divisor of 0.
-use Rattle.std.specs.Prelude.{ℕ, ◌*◌, ◌/◌, ◌%◌, ◌^◌, ℤ, pos, ◌+ℤ◌, ◌-ℤ◌, ◌*ℤ◌, List, ◌++◌, Bool, true, false, not, ◌&&◌, ◌||◌, Option, Some, None, Result, Ok, Err, if◌then◌else◌, bit_and, bit_or, bit_xor, nat_eq}
+use Rattle.std.specs.Prelude.{ℕ, ◌*◌, ◌/◌, ◌%◌, ◌^◌, ℤ, pos, ◌+ℤ◌, ◌-ℤ◌, ◌*ℤ◌, ◌++◌, Bool, true, false, not, ◌&&◌, ◌||◌, Option, Some, None, Result, Ok, Err, if◌then◌else◌, bit_and, bit_or, bit_xor, nat_eq}
 use Rattle.std.specs.Str.{bytes_eq}
 use Rattle.std.specs.Ordering.{nat_cmp, is_lt, int_cmp, int_eq}
 use Rattle.std.specs.Cmp.Lexicographic.{slice_cmp}

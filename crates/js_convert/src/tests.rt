@@ -113,13 +113,11 @@ const OPERATORS: &[(BinaryOp, Sample, Sample, Wanted)] = &[
 #[test]
 fn operators_go_by_their_table(rt: HostRuntime) -> Result<(), Fail> {
     let alloc = rt.alloc();
-    let mut row = 0;
-    for (op, a, b, wanted) in OPERATORS {
+    for (row, (op, a, b, wanted)) in OPERATORS.iter().enumerate() {
         let left = value_of(alloc, *a)?;
         let right = value_of(alloc, *b)?;
         let got = binary(alloc, *op, &left, &right);
         assert!(rt; is_wanted(alloc, &got, *wanted)?, "in row {row}");
-        row += 1;
     }
     Ok(())
 }
