@@ -19,3 +19,6 @@ pub use found::Found;
 pub use ids::{Kind, ObjectId, ScopeId};
 pub use property::{Content, Property};
 pub use value::Value;
+
+#[cfg(test)]
+mod tests;
