@@ -10,3 +10,6 @@ mod table;
 mod walks;
 
 pub use heap::Heap;
+
+#[cfg(test)]
+mod tests;
