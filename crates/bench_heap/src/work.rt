@@ -17,6 +17,17 @@ fn chosen_name(alloc: Global, number: u32) -> Result<Text, Memory> {
     Text::from_units(alloc, &units)
 }
 
+/// A letter and seven digits. A run may make 16,777,216 units of text: eight for each of 2,000,000 names.
+fn short_name(alloc: Global, number: u32) -> Result<Text, Memory> {
+    let mut units = [97; 8];
+    let mut rest = number;
+    for at in 0..7 {
+        units[7 - at] = 48 + (rest % 10) as u16;
+        rest /= 10;
+    }
+    Text::from_units(alloc, &units)
+}
+
 /// Twenty letters drawn from the number.
 fn random_name(alloc: Global, number: u32) -> Result<Text, Memory> {
     let mut units = [97; 20];
@@ -124,7 +135,7 @@ pub fn objects(alloc: Global, count: u32, size: u32) -> Result<u64> {
     for _object in 0..count {
         let object = heap.make(alloc, Kind::Plain, None)?;
         for number in 0..size {
-            let name = chosen_name(alloc, number)?;
+            let name = short_name(alloc, number)?;
             put(alloc, &mut heap, object, &name, number)?;
         }
     }
