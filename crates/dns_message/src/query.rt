@@ -15,6 +15,7 @@ use pac_names::LookupName;
 pub fn write_query(buffer: &mut [u8; 512], id: u16, name: &LookupName) -> usize
     ensures written { buffer.new ≡ question_octets id name.now ++ drop (length (question_octets id name.now)) buffer.old }
     ensures length { result ≡ length (question_octets id name.now) }
+    ensures room { result ≤ 271 }
 {
     Header::query(id).write(buffer);
     write_question(buffer, name)

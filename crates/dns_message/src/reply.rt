@@ -41,6 +41,7 @@ pub fn read_reply(datagram: &[u8], id: u16, name: &LookupName) -> Option<Answer>
 pub fn write_reply(buffer: &mut [u8; 512], id: u16, name: &LookupName, answer: Answer) -> usize
     ensures written { buffer.new ≡ reply_octets id name.now answer ++ drop (length (reply_octets id name.now answer)) buffer.old }
     ensures length { result ≡ length (reply_octets id name.now answer) }
+    ensures room { result ≤ 287 }
     ensures told { reply_of (take result buffer.new) id name.now ≡ Some answer }
 {
     match answer {
