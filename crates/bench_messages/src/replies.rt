@@ -1,4 +1,6 @@
 // The replies that are read. The number in the datagram changes from one reading to the next.
+ghost use Rattle.std.specs.Prelude.{◌<◌};
+
 use dns_message::{read_reply, write_reply};
 use pac_names::{Answer, LookupName};
 
@@ -9,9 +11,6 @@ pub(crate) fn read_plain(count: u32) -> u64 {
     };
     let mut buffer = [0; 512];
     let length = write_reply(&mut buffer, 0, &name, Answer::Address(0x5db8d822));
-    if length < 12 || length > 512 {
-        return 0;
-    }
     read_often(&mut buffer[..length], &name, count)
 }
 
@@ -31,30 +30,30 @@ pub(crate) fn read_chain(count: u32) -> u64 {
 }
 
 // The alias that the chain's step so far from its end goes by.
-fn write_alias(datagram: &mut [u8; 292], step: u8) {
-    if step < 16 {
-        let at = 36 + 16 * step as usize;
-        let target = b'q' - step;
-        let record = [
-            1,
-            target - 1,
-            0,
-            0,
-            5,
-            0,
-            1,
-            0,
-            0,
-            0,
-            60,
-            0,
-            3,
-            1,
-            target,
-            0,
-        ];
-        datagram[at..at + 16].copy_from_slice(&record);
-    }
+fn write_alias(datagram: &mut [u8; 292], step: u8)
+    requires { step < 16 }
+{
+    let at = 36 + 16 * step as usize;
+    let target = b'q' - step;
+    let record = [
+        1,
+        target - 1,
+        0,
+        0,
+        5,
+        0,
+        1,
+        0,
+        0,
+        0,
+        60,
+        0,
+        3,
+        1,
+        target,
+        0,
+    ];
+    datagram[at..at + 16].copy_from_slice(&record);
 }
 
 // The sum of the addresses that readings under the numbers 0, 1 and so on give.
@@ -62,10 +61,9 @@ fn read_often(datagram: &mut [u8], name: &LookupName, count: u32) -> u64 {
     let mut sum: u64 = 0;
     for turn in 0..count {
         let id = (turn % 256) as u16;
-        if datagram.len() < 2 {
-            return sum;
+        if let [_, low, ..] = datagram {
+            *low = id as u8;
         }
-        datagram[1] = id as u8;
         if let Some(Answer::Address(address)) = read_reply(datagram, id, name) {
             sum = sum.wrapping_add(u64::from(address));
         }
