@@ -88,6 +88,8 @@ def check_bad_input(failures):
 
 
 def main():
+    # builds the program where the gate left none
+    subprocess.run(["./pac"], stdout=subprocess.DEVNULL, check=False)
     failures = []
     count = check_readme(failures) + check_examples(failures) + check_bad_input(failures)
     for failure in failures:
