@@ -1,16 +1,19 @@
 #!/usr/bin/env python3
-"""Writes the size and the code of the trees of scripts from their definition.
+"""Writes the size, the code and the view of the trees of scripts from their definitions.
 
-It reads crates/js_tree/specs/Tree.antt and writes Size.antt and Code.antt beside it. Run it at the top of the repository
-after each change of a tree; with the word `--check` it writes nothing and ends with status 1 where a file is not the one
-that it would write.
+It reads crates/js_tree/specs/Tree.antt and writes Size.antt and Code.antt beside it; View.antt, the tree that the code's
+own structs and enums stand for, it writes from that file and from src/expression.rt and src/statement.rt together. Run it
+at the top of the repository after each change of a tree; with the word `--check` it writes nothing and ends with status 1
+where a file is not the one that it would write.
 """
 import re
 import sys
 from pathlib import Path
 
 SPECS = Path("crates/js_tree/specs")
+SOURCES = Path("crates/js_tree/src")
 NOTE = "-- Written by tools/write_tree.py from Tree.antt: change that file, and run the script.\n"
+VIEW_NOTE = "-- Written by tools/write_tree.py from Tree.antt, src/expression.rt and src/statement.rt: change these, and run the script.\n"
 
 # The enums without fields that trees hold: their name in code, and the source file of each.
 ENUMS = {
@@ -63,7 +66,7 @@ def read_trees(text):
 
 def variants(enum, module):
     """The variants of an enum without fields, as its source file lists them."""
-    source = Path(f"crates/js_tree/src/{module}.rt").read_text()
+    source = (SOURCES / f"{module}.rt").read_text()
     body = re.search(r"pub enum " + enum + r" \{(.*?)\n\}", source, re.S).group(1)
     return re.findall(r"^    (\w+),$", body, re.M)
 
@@ -327,9 +330,162 @@ def write_code(types):
     return "\n".join(out).rstrip() + "\n"
 
 
+# The lists of the code whose items are structs: the definition of the list as a tree, the struct and its type of trees.
+LISTS = [
+    ("properties_of", "Property", "Properties"),
+    ("suffixes_of", "Suffix", "Suffixes"),
+    ("operands_of", "Operand", "Operands"),
+    ("declarations_of", "Declared", "Declarations"),
+    ("branches_of", "Branch", "Branches"),
+    ("clauses_of", "Clause", "Clauses"),
+]
+
+# The enums of the code: the definition of one as a tree, the enum, its type of trees, and the first of its constructors.
+# Those of a node stand in the order of its variants; one with a function has two, the second for its number.
+ENUM_VIEWS = [
+    ("suffix_of", "SuffixNode", "SuffixTree", "a_member"),
+    ("start_of", "ForStart", "StartTree", "start_var"),
+    ("target_of", "ForTarget", "TargetTree", "target_value"),
+    ("expression_of", "ExpressionNode", "ExpressionTree", "Number"),
+    ("statement_of", "StatementNode", "StatementTree", "Block"),
+]
+
+# The parts of the code that may be missing: the definition, the type of the part, its type of trees with the constructor
+# of a missing one, and the term of the part, which lies at `x.value`.
+OPTIONS = [
+    ("optional_box", "ExpressionTree", "OptionalExpression", "absent", "present x.value"),
+    ("optional_statement", "StatementTree", "OptionalStatement", "omitted", "given x.value"),
+    ("optional_start", "ForStart", "StartTree", "no_start", "start_of x.value"),
+    ("optional_catch", "Catch", "CatchTree", "no_catch", "a_catch x.value.name x.value.body"),
+]
+
+# How a part of the code is seen as a part of a tree. One that is not here is seen as it is.
+SEEN = {
+    "Box<Expression>": "{}.value",
+    "Box<Statement>": "{}.value",
+    "Option<Expression>": "(optional_of {})",
+    "Option<Box<Expression>>": "(optional_box {})",
+    "Option<Box<Statement>>": "(optional_statement {})",
+    "Option<Box<ForStart>>": "(optional_start {})",
+    "Option<Box<Catch>>": "(optional_catch {})",
+    "Box<ForTarget>": "(target_of {}.value)",
+    "Box<Function>": "(function_of {}.value)",
+    "ExpressionList": "(expressions_of {})",
+    "ItemList": "(items_of {})",
+    "PropertyList": "(properties_of {})",
+    "SuffixList": "(suffixes_of {})",
+    "OperandList": "(operands_of {})",
+    "StatementList": "(statements_of {})",
+    "DeclaredList": "(declarations_of {})",
+    "BranchList": "(branches_of {})",
+    "ClauseList": "(clauses_of {})",
+}
+
+
+def read_code():
+    """The structs and enums of expressions and statements: the parts of each as pairs of a name and its types."""
+    structs, enums = {}, {}
+    for module in ["expression", "statement"]:
+        source = re.sub(r" *//.*", "", (SOURCES / f"{module}.rt").read_text())
+        for name, body in re.findall(r"pub struct (\w+) \{(.*?)\n\}", source, re.S):
+            structs[name] = re.findall(r"pub (\w+): (.*),", body)
+        for name, body in re.findall(r"pub enum (\w+) \{(.*?)\n\}", source, re.S):
+            rows = re.findall(r"^    (\w+)(?:\((.*)\))?,$", body, re.M)
+            enums[name] = [(variant, parts.split(", ") if parts else []) for variant, parts in rows]
+    return structs, enums
+
+
+def seen(kind, term):
+    return SEEN.get(kind, "{}").format(term)
+
+
+def fields_seen(struct, variable, structs):
+    """The parts of a struct as parts of a tree; the place and node of one are seen as one tree."""
+    if [name for name, _ in structs[struct]] == ["place", "node"]:
+        return [f"({snake(struct)}_of {variable}.place {variable}.node)"]
+    return [seen(kind, f"{variable}.{name}") for name, kind in structs[struct]]
+
+
+def list_view(name, struct, tree, types, structs):
+    (empty, _), (cons, _) = types[tree]
+    parts = " ".join(fields_seen(struct, "x", structs))
+    return f"abbrev pub {name} : List {struct} → {tree}\n{name} [] = {empty}\n{name} (x ∷ xs) = {cons} {parts} ({name} xs)\n"
+
+
+def cases_of(parts, structs, enums):
+    """The patterns of the parts of a variant, each beside the parts of the tree. A function is one of two."""
+    cases = [([], [])]
+    for i, kind in enumerate(parts):
+        name = f"x{i}"
+        if kind == "FunctionPart":
+            ways = [(f"(part.{variant} {name})", [seen(inner, name)]) for variant, [inner] in enums[kind]]
+        elif kind in structs and kind not in ("Expression", "Statement"):
+            ways = [(name, fields_seen(kind, name, structs))]
+        else:
+            ways = [(name, [seen(kind, name)])]
+        cases = [(patterns + [way], terms + more) for patterns, terms in cases for way, more in ways]
+    return cases
+
+
+def enum_view(name, enum, tree, first, types, structs, enums):
+    constructors = [constructor for constructor, _ in types[tree]]
+    left = iter(constructors[constructors.index(first):])
+    placed = ["p"] if enum.endswith("Node") else []
+    lines = [f"abbrev pub {name} : " + ("Place → " if placed else "") + f"{enum} → {tree}"]
+    for variant, parts in enums[enum]:
+        for patterns, terms in cases_of(parts, structs, enums):
+            given = " ".join([f"{snake(enum)}.{variant}"] + patterns)
+            given = f"({given})" if patterns else given
+            lines.append(" ".join([name] + placed + [given, "=", next(left)] + placed + terms))
+    return "\n".join(lines) + "\n"
+
+
+def option_view(name, part, tree, missing, term):
+    return f"abbrev pub {name} : Option (Box {part} Global) → {tree}\n{name} None = {missing}\n{name} (Some x) = {term}\n"
+
+
+def write_view(types):
+    structs, enums = read_code()
+    lists = {row[0]: list_view(*row, types, structs) for row in LISTS}
+    choices = {row[0]: enum_view(*row, types, structs, enums) for row in ENUM_VIEWS}
+    options = {row[0]: option_view(*row) for row in OPTIONS}
+    function = f"abbrev pub function_of : FunctionRecord → FunctionTree\nfunction_of x = a_function {' '.join(fields_seen('Function', 'x', structs))}\n"
+    whole = [
+        f"abbrev pub {name}_view : of_{name}.Inside → {name.capitalize()}Tree\n{name}_view x = {name}_of x.place x.node\n"
+        for name in ["expression", "statement"]
+    ]
+    order = [choices.pop("suffix_of"), *lists.values(), function, options.pop("optional_box"), options.pop("optional_statement")]
+    order += [choices.pop("start_of"), choices.pop("target_of"), *options.values(), *choices.values(), *whole]
+    text = "\n".join(order).rstrip() + "\n"
+    return view_imports(types, text) + "\n" + text
+
+
+def view_imports(types, text):
+    """The imports of View.antt: of the trees, those names alone that it uses."""
+    out = [VIEW_NOTE + "-- The tree that an expression or a statement of the code is, without where it lies in memory."]
+    out.append("use Rattle.std.specs.Prelude.{List, [], ◌∷◌, Option, Some, None, Box}")
+    out.append("use Rattle.std.specs.declared.alloc.Global.{Global}")
+    out.append("use Rattle.js_tree.specs.declared.place.Place.{Place}")
+    declared = "use Rattle.js_tree.specs.declared"
+    for kind in ["Expression", "Statement"]:
+        out.append(f"{declared}.{kind.lower()}.{kind}.TheInside as of_{kind.lower()}")
+    structs = {"expression": "Property Suffix Operand", "statement": "Declared Branch Clause Catch"}
+    enums = {"expression": "ExpressionNode SuffixNode", "statement": "StatementNode ForStart ForTarget"}
+    out.append(f"{declared}.expression.Function.{{Function as FunctionRecord}}")
+    out.append(f"{declared}.expression.FunctionPart.TheVariants as part")
+    for module in structs:
+        out += [f"{declared}.{module}.{name}.{{{name}}}" for name in (structs[module] + " " + enums[module]).split()]
+        out += [f"{declared}.{module}.{name}.TheVariants as {snake(name)}" for name in enums[module].split()]
+    names = [name for tree in types for name in [tree] + [c for c, _ in types[tree]]]
+    names += ["optional_of", "expressions_of", "items_of", "statements_of"]
+    used = [name for name in names if re.search(rf"(?<![\w.]){name}\b", text)]
+    out.append("use Rattle.js_tree.specs.Tree.{" + ", ".join(used) + "}\n")
+    return "\n".join(out)
+
+
 def main():
     types = read_trees((SPECS / "Tree.antt").read_text())
-    files = {"Size.antt": write_size(types), "Code.antt": write_code(types)}
+    files = {"Size.antt": write_size(types), "Code.antt": write_code(types), "View.antt": write_view(types)}
     if sys.argv[1:] == ["--check"]:
         stale = [name for name, text in files.items() if (SPECS / name).read_text() != text]
         for name in stale:

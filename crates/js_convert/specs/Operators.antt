@@ -12,8 +12,8 @@ use Rattle.heap_values.specs.declared.value.Value.{Value}
 use Rattle.heap_values.specs.declared.value.Value.TheVariants as value
 use Rattle.js_convert.specs.declared.numeric.Numeric.{Numeric}
 use Rattle.js_convert.specs.declared.numeric.Numeric.TheVariants as numeric
-use Rattle.js_convert.specs.declared.op.BinaryOp.{BinaryOp}
-use Rattle.js_convert.specs.declared.op.BinaryOp.TheVariants.{BitOr, BitXor, BitAnd, Equal, NotEqual, StrictEqual, StrictNotEqual, Less, Greater, LessEqual, GreaterEqual, ShiftLeft, ShiftRight, UnsignedShiftRight, Add, Subtract, Multiply, Divide, Remainder}
+use Rattle.js_tree.specs.declared.operators.BinaryOp.{BinaryOp}
+use Rattle.js_tree.specs.declared.operators.BinaryOp.TheVariants.{BitOr, BitXor, BitAnd, Equal, NotEqual, StrictEqual, StrictNotEqual, Less, Greater, LessEqual, GreaterEqual, ShiftLeft, ShiftRight, UnsignedShiftRight, Add, Subtract, Multiply, Divide, Remainder}
 use Rattle.js_convert.specs.declared.answer.ConvertAnswer.{ConvertAnswer}
 use Rattle.js_convert.specs.declared.answer.ConvertAnswer.TheVariants as answer
 use Rattle.js_convert.specs.Numeric.{numeric_of}

@@ -8,7 +8,6 @@ mod answer;
 mod digits;
 mod equality;
 mod numeric;
-mod op;
 mod operands;
 mod operators;
 mod order;
@@ -16,8 +15,8 @@ mod texts;
 
 pub use answer::ConvertAnswer;
 pub use equality::{loose_equals, strict_equals};
+pub use js_tree::BinaryOp;
 pub use numeric::{Numeric, to_boolean, to_number};
-pub use op::BinaryOp;
 pub use operators::binary;
 pub use order::less;
 pub use texts::to_text;

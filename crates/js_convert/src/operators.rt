@@ -2,7 +2,7 @@
 ghost use Rattle.std.specs.Prelude.{◌≡◌, ◌⊎◌, IfOk, IfErr, Ok, Err};
 ghost use Rattle.js_convert.specs.Operators.{operator_value, sum_value, bits_value, less_truth, not_less_truth};
 ghost use Rattle.js_convert.specs.declared.answer.ConvertAnswer.TheVariants as answer;
-ghost use Rattle.js_convert.specs.declared.op.BinaryOp.TheVariants as op;
+ghost use Rattle.js_tree.specs.declared.operators.BinaryOp.TheVariants as op;
 
 use crate::operands::{both_bits, both_numbers, is_text};
 use crate::{BinaryOp, ConvertAnswer, less, loose_equals, strict_equals, to_text};

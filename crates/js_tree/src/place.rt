@@ -1,4 +1,6 @@
 // Places in scripts.
+ghost use Rattle.std.specs.Prelude.{Some, [], ◌∷◌, ◌++◌, decimal};
+
 use std::fmt;
 
 /// The place of a unit in a script: line and column, both from 1. Columns count 16-bit units, and CR LF is one break.
@@ -8,7 +10,10 @@ pub struct Place {
     pub column: u32,
 }
 
+/// The line, a colon and the column.
 impl fmt::Display for Place {
+    ghost output = { λ place. Some (decimal place.line ++ 58 ∷ decimal place.column) };
+
     fn fmt<W: fmt::Write>(&self, f: &mut fmt::Formatter<W>) -> fmt::Result {
         write!(f, "{}:{}", self.line, self.column)
     }
