@@ -1,7 +1,16 @@
+pub mod Bare
 pub mod Examples
+pub mod Expressions
 pub mod Literals
+pub mod Operators
+pub mod PrintedExamples
+pub mod Printing
+pub mod Readers
 pub mod Reading
 pub mod Signs
+pub mod Spelled
+pub mod Spelling
+pub mod Statements
 pub mod Tokens
 pub mod Units
 pub mod Words

@@ -1,0 +1,28 @@
+-- The bytes of a printed script, this project's spelling: ASCII alone.
+use Rattle.std.specs.Prelude.{ℕ, List, [], ◌∷◌, ◌++◌, true, false}
+use Rattle.std.specs.List.{flat_map}
+use Rattle.std.specs.Fmt.{signed_decimal}
+use Rattle.utf16_text.specs.Escape.{escaped}
+use Rattle.js_tree.specs.declared.token.Token.{Token}
+use Rattle.js_tree.specs.declared.token.TokenKind.{TokenKind}
+use Rattle.js_tree.specs.declared.token.TokenKind.TheVariants as token
+use Rattle.js_tree.specs.Tree.{StatementTree}
+use Rattle.js_grammar.specs.Signs.{sign_spelling}
+use Rattle.js_grammar.specs.Printing.{statement_tokens}
+
+-- a text stands in `"` (34) with its escape, and a number in decimal
+abbrev pub spelling : TokenKind → List ℕ
+spelling (token.Word w) = escaped false w
+spelling (token.Number n) = signed_decimal n
+spelling (token.Text x) = 34 ∷ (escaped true x ++ 34 ∷ [])
+spelling (token.Sign s) = sign_spelling s
+
+-- tokens parted by one space (32), with a line feed (10) behind the last
+abbrev pub line : List Token → List ℕ
+line [] = 10 ∷ []
+line (t ∷ []) = spelling t.kind ++ 10 ∷ []
+line (t ∷ u ∷ ts) = spelling t.kind ++ 32 ∷ line (u ∷ ts)
+
+-- a script as it is printed: each of its statements is a line
+abbrev pub printed_bytes : List StatementTree → List ℕ
+printed_bytes body = flat_map (λ s. line (statement_tokens s)) body
