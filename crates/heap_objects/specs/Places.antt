@@ -1,5 +1,6 @@
 -- Where a name stands among the properties, and properties under numbers with an index by name.
-use Rattle.std.specs.Prelude.{◌≡◌, ℕ, ◌+◌, ◌≤◌, List, [], ◌∷◌, ◌++◌, Option, Some, None, slice_get, slice_set, remove, if◌then◌else◌}
+use Rattle.std.specs.Prelude.{◌≡◌, ℕ, ◌+◌, ◌≤◌, List, [], ◌∷◌, ◌++◌, Option, Some, None, slice_get, slice_set, remove, if◌then◌else◌, Box}
+use Rattle.std.specs.declared.alloc.Global.{Global}
 use Rattle.std.specs.Str.{bytes_eq}
 use Rattle.heap_values.specs.declared.property.Property.{Property}
 use Rattle.heap_objects.specs.Properties.{property_at, with_property, without_property}
@@ -22,6 +23,16 @@ pub record IsMissing (es : List (List ℕ × Property)) (name : List ℕ) : Type
 abbrev pub NamesDiffer : List (List ℕ × Property) → Type 0
 NamesDiffer [] = Unit {0}
 NamesDiffer (e ∷ es) = (property_at es e.0 ≡ None) × NamesDiffer es
+
+-- entries by number, out of their boxes
+abbrev pub unboxed : List (ℕ × Box (List ℕ × Property) Global) → List (ℕ × (List ℕ × Property))
+unboxed [] = []
+unboxed (e ∷ es) = (e.0, e.1.value) ∷ unboxed es
+
+-- entries out of their boxes
+abbrev pub opened : List (Box (List ℕ × Property) Global) → List (List ℕ × Property)
+opened [] = []
+opened (b ∷ bs) = b.value ∷ opened bs
 
 -- numbers by name, without this name
 abbrev pub without_name : (List ℕ → Option ℕ) → List ℕ → List ℕ → Option ℕ

@@ -7,6 +7,7 @@
 mod listing;
 mod name_set;
 mod names;
+mod numbered;
 mod object;
 mod ordered;
 mod properties;

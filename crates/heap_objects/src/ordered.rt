@@ -1,14 +1,13 @@
 // Many properties, each under its number in the order of creation.
 ghost use Rattle.std.specs.Prelude.{◌≡◌, [], Some, None, IfOk, OnOk, OnErr};
-ghost use Rattle.std.specs.Option.{option_copied, option_map};
+ghost use Rattle.std.specs.Option.{option_copied};
 ghost use Rattle.std.specs.Ordering.{nat_cmp};
-ghost use Rattle.std.specs.BTreeMap.{get, insert_entry, is_at, values};
-ghost use Rattle.std.specs.Map.{remove_entry};
+ghost use Rattle.std.specs.BTreeMap.{get};
 ghost use Rattle.std.specs.Cmp.Lexicographic.{slice_cmp};
 ghost use Rattle.heap_objects.specs.Places.{Updated};
 ghost use Rattle.heap_objects.specs.Properties.{property_at, with_property, without_property, listed_names_of};
 
-use crate::listing::{join_names, list_name};
+use crate::numbered::Numbered;
 use heap_values::Property;
 use std::alloc::Global;
 use std::collections::BTreeMap;
@@ -19,7 +18,7 @@ use utf16_text::{Memory, Text, TextList};
 /// by name, so that a script can't choose names that are slow.
 #[derive(Drop)]
 pub(crate) struct Ordered {
-    properties: BTreeMap<u32, (Text, Property)>,
+    properties: Numbered,
     numbers: BTreeMap<Text, u32>,
     next: u32,
 }
@@ -28,15 +27,16 @@ impl Model for Ordered {
     ghost use Rattle.std.specs.Prelude.{List, ℕ};
     ghost use Rattle.std.specs.Ordering.{nat_cmp};
     ghost use Rattle.std.specs.Cmp.Lexicographic.{slice_cmp};
-    ghost use Rattle.std.specs.BTreeMap.{values, get};
+    ghost use Rattle.std.specs.BTreeMap.{get};
+    ghost use Rattle.std.specs.Map.{values_of};
     ghost use Rattle.heap_values.specs.declared.property.Property.{Property};
     ghost use Rattle.heap_objects.specs.Places.{IsIndexOf};
 
     ghost Value = { List (List ℕ × Property) };
 
-    ghost view = { λ o. values o.properties };
+    ghost view = { λ o. values_of o.properties };
 
-    ghost invariant = { λ o. IsIndexOf o.next (get (slice_cmp nat_cmp) o.numbers) 0 o.properties.entries };
+    ghost invariant = { λ o. IsIndexOf o.next (get (slice_cmp nat_cmp) o.numbers) 0 o.properties };
 }
 
 impl Ordered {
@@ -44,7 +44,7 @@ impl Ordered {
         ensures { result ≡ [] }
     {
         Ordered {
-            properties: BTreeMap::new(alloc),
+            properties: Numbered::new(alloc),
             numbers: BTreeMap::new(alloc),
             next: 0,
         }
@@ -55,7 +55,7 @@ impl Ordered {
     {
         match self.numbers.get(name).copied() {
             None => None,
-            Some(number) => find_under(&self.properties, number),
+            Some(number) => self.properties.get(number),
         }
     }
 
@@ -71,7 +71,7 @@ impl Ordered {
     {
         let held = name.copy(alloc)?;
         if let Some(number) = self.numbers.get(name).copied() {
-            put_under(&mut self.properties, number, held, property)?;
+            self.properties.put(alloc, number, held, property)?;
             return Ok(());
         }
         let number = self.next;
@@ -79,7 +79,7 @@ impl Ordered {
             return Err(Memory);
         };
         put_number(&mut self.numbers, name.copy(alloc)?, number)?;
-        match put_under(&mut self.properties, number, held, property) {
+        match self.properties.put(alloc, number, held, property) {
             Ok(()) => {
                 self.next = next;
                 Ok(())
@@ -99,7 +99,7 @@ impl Ordered {
             None => {}
             Some(number) => {
                 remove_number(&mut self.numbers, name);
-                remove_under(&mut self.properties, number);
+                self.properties.remove(number);
             }
         }
     }
@@ -108,22 +108,8 @@ impl Ordered {
     pub(crate) fn listed_names(&self, alloc: Global) -> Result<TextList, Memory>
         ensures { IfOk result (λ names. names ≡ listed_names_of self.now) }
     {
-        list_ordered(alloc, &self.properties)
+        self.properties.listed_names(alloc)
     }
-}
-
-fn list_ordered(
-    alloc: Global,
-    properties: &BTreeMap<u32, (Text, Property)>,
-) -> Result<TextList, Memory>
-    ensures { IfOk result (λ names. names ≡ listed_names_of (values properties.now)) }
-{
-    let mut indexed = BTreeMap::new(alloc);
-    let mut others = TextList::new(alloc);
-    for entry in properties.values() {
-        list_name(alloc, &mut indexed, &mut others, &entry.0, &entry.1)?;
-    }
-    join_names(alloc, &indexed, &others)
 }
 
 fn put_number(numbers: &mut BTreeMap<Text, u32>, name: Text, number: u32) -> Result<(), Memory>
@@ -138,32 +124,4 @@ fn remove_number(numbers: &mut BTreeMap<Text, u32>, name: &Text)
     ensures { Updated (get (slice_cmp nat_cmp) numbers.old) name.now None (get (slice_cmp nat_cmp) numbers.new) }
 {
     let _number = numbers.remove(name);
-}
-
-fn find_under(properties: &BTreeMap<u32, (Text, Property)>, number: u32) -> Option<&Property>
-    ensures { option_copied result ≡ option_map (λ entry. entry.1) (get nat_cmp properties.now number) }
-{
-    match properties.get(&number) {
-        None => None,
-        Some(entry) => Some(&entry.1),
-    }
-}
-
-fn remove_under(properties: &mut BTreeMap<u32, (Text, Property)>, number: u32)
-    ensures { properties.new.entries ≡ remove_entry (is_at (nat_cmp number)) properties.old.entries }
-{
-    let _gone = properties.remove(&number);
-}
-
-fn put_under(
-    properties: &mut BTreeMap<u32, (Text, Property)>,
-    number: u32,
-    name: Text,
-    property: Property,
-) -> Result<(), Memory>
-    ensures ok { OnOk result (properties.new.entries ≡ insert_entry nat_cmp properties.old.entries number (name, property)) }
-    ensures unchanged { OnErr result (properties.new.entries ≡ properties.old.entries) }
-{
-    properties.insert(number, (name, property))?;
-    Ok(())
 }
