@@ -1,0 +1,2 @@
+//! Which trees reading can give: the statement, and its proof.
+#![tactic(auto)]

@@ -1,0 +1,11 @@
+pub mod Lists
+pub mod RereadCompounds
+pub mod RereadExpressions
+pub mod RereadKinds
+pub mod RereadLoops
+pub mod RereadOperators
+pub mod RereadParts
+pub mod RereadRows
+pub mod RereadStatements
+pub mod RereadSuffixes
+pub mod Rereading

@@ -1,0 +1,15 @@
+-- The law of reading printed tokens again, on the trees that reading can give.
+use Rattle.std.specs.Prelude.{◌≡◌, List, map, Ok}
+use Rattle.std.specs.List.{flat_map}
+use Rattle.js_tree.specs.declared.place.Place.{Place}
+use Rattle.js_tree.specs.Tree.{StatementTree, statements_of}
+use Rattle.js_grammar.specs.Statements.{at_top, script_without_limit}
+use Rattle.js_grammar.specs.Printing.{statement_tokens}
+use Rattle.js_grammar.specs.Bare.{bare_statement}
+use Rattle.law_readable.specs.Readable.{AreStatements}
+
+-- Where reading can give a tree, its printed tokens are read, with no limit of nesting, as the same tree, places put aside.
+abbrev pub PrintedTokensAreReadAgain : Type 0
+PrintedTokensAreReadAgain =
+    (end : Place) (body : List StatementTree) → AreStatements at_top (statements_of body)
+    → script_without_limit end (flat_map statement_tokens body) ≡ Ok (map bare_statement body)

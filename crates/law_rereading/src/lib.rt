@@ -1,0 +1,9 @@
+//! The law that printed tokens are read again as the same tree, places put aside, for each tree that reading can give.
+//!
+//! `specs/Laws.antt` states it on the definitions of js_grammar; which trees reading can give is law_readable's
+//! `AreStatements`. The crate has no code that runs. It stands on law_readable and js_grammar.
+#![tactic(auto)]
+
+mod laws;
+
+pub use laws::printed_tokens_are_read_again;
