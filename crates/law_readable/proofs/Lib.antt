@@ -1,0 +1,3 @@
+pub mod ReadExpressions
+pub mod ReadOperators
+pub mod Steps
