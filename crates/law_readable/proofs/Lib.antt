@@ -1,3 +1,4 @@
 pub mod ReadExpressions
 pub mod ReadOperators
+pub mod Shorter
 pub mod Steps

@@ -90,3 +90,16 @@ level_is k (Some x) op h = by_test (nat_eq (level_of x) k) refl h
         let is : level_of x ≡ k = grind (arith, nat_tests) in
         ap level_of (sym same) ∙ is
     by_test false e h = cc
+
+-- what holds of the answer, where there is one
+abbrev pub Where : {A : Type 0} → (A → Type 0) → Result A Refusal → Type 0
+Where P (Ok x) = P x
+Where P (Err e) = Unit {0}
+
+pub step : {A B : Type 0} {P : A → Type 0} (Q : B → Type 0) (m : Result A Refusal) (f : A → Result B Refusal) → Where P m → ((x : A) → P x → Where Q (f x)) → Where Q (m >>= f)
+step Q (Ok x) f h k = k x h
+step Q (Err e) f h k = tt
+
+pub chosen : {A : Type 0} (P : A → Type 0) (b : Bool) (x y : Result A Refusal) → (b ≡ true → Where P x) → (b ≡ false → Where P y) → Where P (if b then x else y)
+chosen P true x y h k = h refl
+chosen P false x y h k = k refl
