@@ -1,4 +1,4 @@
 pub mod ReadExpressions
 pub mod ReadOperators
-pub mod Shorter
+pub mod ReadParts
 pub mod Steps
