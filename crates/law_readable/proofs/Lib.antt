@@ -1,4 +1,9 @@
+pub mod ReadBranches
+pub mod ReadClauses
 pub mod ReadExpressions
+pub mod ReadHeaders
 pub mod ReadOperators
 pub mod ReadParts
+pub mod ReadScripts
+pub mod ReadStatements
 pub mod Steps

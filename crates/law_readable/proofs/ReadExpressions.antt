@@ -1,5 +1,5 @@
 -- What reading gives of expressions without operators: one lemma for each production.
-use Rattle.std.proofs.Common.{◌≡◌, ℕ, ◌≤◌, List, [], ◌∷◌, length, Option, Some, None, Ok, Err, Bool, true, false, refl}
+use Rattle.std.proofs.Common.{◌≡◌, ℕ, ◌≤◌, List, [], ◌∷◌, length, Option, Some, None, Bool, true, false, refl}
 use Rattle.js_tree.specs.declared.place.Place.{Place}
 use Rattle.js_tree.specs.declared.token.Token.{Token}
 use Rattle.js_tree.specs.declared.token.TokenKind.{TokenKind}
@@ -10,10 +10,8 @@ use Rattle.js_tree.specs.declared.bound.BoundName.{BoundName}
 use Rattle.js_tree.specs.declared.expression.Property.{Property}
 use Rattle.js_tree.specs.declared.expression.Suffix.{Suffix}
 use Rattle.js_tree.specs.declared.expression.Function.{Function as FunctionRecord}
-use Rattle.js_tree.specs.Tree.{ExpressionTree, StatementTree, expressions_of, items_of, statements_of}
+use Rattle.js_tree.specs.Tree.{ExpressionTree, StatementTree, optional_of, expressions_of, items_of, statements_of}
 use Rattle.js_tree.specs.View.{properties_of, suffix_of, suffixes_of, function_of}
-use Rattle.js_grammar.specs.declared.turn.Turn.{Turn}
-use Rattle.js_grammar.specs.declared.turn.Turn.TheVariants.{More, Last, End}
 use Rattle.js_grammar.specs.declared.keyword.Keyword.{Keyword}
 use Rattle.js_grammar.specs.declared.keyword.Keyword.TheVariants as word
 use Rattle.js_grammar.specs.declared.form.Form.{Form}
@@ -21,19 +19,17 @@ use Rattle.js_grammar.specs.declared.form.Form.TheVariants.{Plain}
 use Rattle.js_grammar.specs.declared.form.LeftSide.{LeftSide}
 use Rattle.js_grammar.specs.declared.form.LeftSide.TheVariants as side
 use Rattle.js_grammar.specs.declared.around.Around.{Around}
-use Rattle.js_grammar.specs.Reading.{◌>>=◌}
 use Rattle.js_grammar.specs.Words.{keyword_of}
 use Rattle.js_grammar.specs.Readers.{Reader, row, rest_of, next_sign, next_keyword, expect, name, any_word, parameters}
 use Rattle.js_grammar.specs.Expressions.{Deeper, joined, suffixed_by, next_name, is_accessor, a_statement, statement_unless, closes, in_function, a_part, expression, in_parentheses, an_argument, arguments, arguments_by, item_value, item_by, an_item, named_property, property_or_end, property_by, property_from, a_property, function_from, function_expression, function_by, new_expression, new_arguments, new_arguments_by, primary, primary_by, word_value, sign_value, a_suffix, suffix_by, suffixed}
-use Rattle.law_readable.specs.Readable.{IsName, AreNames, IsOwnName, IsExpression, AreExpressions, AreItems, AreProperties, IsSuffix, AreSuffixes, IsFunction, IsStatement, AreStatements, ends_open, is_if, is_block}
-use Rattle.law_readable.proofs.Steps.{Where, step, Short, Gives, Reads, weaker, rest_short, Every, OfTurn, OfPart, AreSome, row_reads, some_read, parted_reads}
+use Rattle.law_readable.specs.Readable.{IsName, AreNames, IsOwnName, IsExpression, IsOptional, AreExpressions, AreItems, AreProperties, IsSuffix, AreSuffixes, IsFunction, IsStatement, AreStatements, ends_open, is_if, is_block}
+use Rattle.law_readable.proofs.Steps.{Where, step, OfOption, Gives, Reads, weaker, rest_short, Every, OfTurn, OfPart, AreSome, row_reads, some_read, parted_reads}
 use Rattle.law_readable.proofs.ReadParts.{expect_short, listed_reads, name_reads, any_word_short, parameters_read}
 
 -- ---- lists
 
 abbrev pub IsOption : Option ExpressionTree → Type 0
-IsOption None = Unit {0}
-IsOption (Some e) = IsExpression e
+IsOption o = OfOption IsExpression o
 
 abbrev IsProperty : Property → Type 0
 IsProperty p = IsExpression p.value
@@ -45,10 +41,13 @@ every_expression : (es : List ExpressionTree) → Every IsExpression es → AreE
 every_expression [] h = tt
 every_expression (e ∷ es) h = (h.0, every_expression es h.1)
 
+pub option_is : (o : Option ExpressionTree) → IsOption o → IsOptional (optional_of o)
+option_is None h = tt
+option_is (Some e) h = h
+
 every_item : (os : List (Option ExpressionTree)) → Every IsOption os → AreItems (items_of os)
 every_item [] h = tt
-every_item (None ∷ os) h = (tt, every_item os h.1)
-every_item (Some e ∷ os) h = (h.0, every_item os h.1)
+every_item (o ∷ os) h = (option_is o h.0, every_item os h.1)
 
 every_property : (ps : List Property) → Every IsProperty ps → AreProperties (properties_of ps)
 every_property [] h = tt

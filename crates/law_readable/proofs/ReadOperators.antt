@@ -1,5 +1,5 @@
 -- What reading gives of expressions with operators: one lemma for each production.
-use Rattle.std.proofs.Common.{◌≡◌, ℕ, zero, suc, ◌<◌, ◌≤◌, List, [], ◌∷◌, length, Option, Some, None, Ok, Bool, true, false, refl, arith}
+use Rattle.std.proofs.Common.{◌≡◌, ℕ, zero, suc, ◌<◌, ◌≤◌, List, [], ◌∷◌, Option, Some, None, refl, arith}
 use Rattle.js_tree.specs.declared.place.Place.{Place}
 use Rattle.js_tree.specs.declared.token.Token.{Token}
 use Rattle.js_tree.specs.declared.sign.Sign.{Sign}
@@ -13,12 +13,11 @@ use Rattle.js_tree.specs.Tree.{ExpressionTree}
 use Rattle.js_tree.specs.View.{operands_of}
 use Rattle.js_grammar.specs.declared.form.Form.{Form}
 use Rattle.js_grammar.specs.declared.form.LeftSide.TheVariants as side
-use Rattle.js_grammar.specs.Reading.{◌>>=◌}
 use Rattle.js_grammar.specs.Readers.{Reader, row, rest_of, next_sign, expect}
 use Rattle.js_grammar.specs.Operators.{next_unary, next_update, next_postfix, next_binary, at_level, next_assign, level_of, is_target}
 use Rattle.js_grammar.specs.Expressions.{Deeper, suffixed, postfix, postfix_by, unary, unary_by, updated, an_operand, operand_by, chain, chained, level, conditional, conditional_by, assignment, assigned_by}
 use Rattle.law_readable.specs.Readable.{IsExpression, AreOperands}
-use Rattle.law_readable.proofs.Steps.{Where, step, chosen, Gives, Reads, rest_short, Every, OfTurn, row_reads, level_is}
+use Rattle.law_readable.proofs.Steps.{step, chosen, Reads, rest_short, Every, OfTurn, row_reads, level_is}
 use Rattle.law_readable.proofs.ReadParts.{expect_short}
 use Rattle.law_readable.proofs.ReadExpressions.{PartsRead, suffixed_reads}
 

@@ -1,19 +1,16 @@
 -- What reading gives of signs that must come next, of names and of parameters.
-use Rattle.std.proofs.Common.{◌≡◌, ℕ, ◌≤◌, List, [], ◌∷◌, length, Option, Some, None, Ok, Err, Bool, true, false, refl}
+use Rattle.std.proofs.Common.{◌≡◌, ℕ, ◌≤◌, List, [], ◌∷◌, length, Option, Some, None, Bool, true, false, refl}
 use Rattle.js_tree.specs.declared.place.Place.{Place}
 use Rattle.js_tree.specs.declared.token.Token.{Token}
 use Rattle.js_tree.specs.declared.token.TokenKind.{TokenKind}
 use Rattle.js_tree.specs.declared.token.TokenKind.TheVariants as token
 use Rattle.js_tree.specs.declared.sign.Sign.{Sign}
 use Rattle.js_tree.specs.declared.sign.Sign.TheVariants as sign
-use Rattle.js_tree.specs.declared.bound.BoundName.{BoundName}
-use Rattle.js_grammar.specs.declared.turn.Turn.{Turn}
 use Rattle.js_grammar.specs.declared.keyword.Keyword.{Keyword}
-use Rattle.js_grammar.specs.Reading.{◌>>=◌}
 use Rattle.js_grammar.specs.Words.{keyword_of}
-use Rattle.js_grammar.specs.Readers.{Reader, row, rest_of, sign_of, next_sign, is_sign, taken_if, expect, name, name_if, name_by, any_word, word_by, semicolon, semicolon_by, listed, listed_by, parameters, parameters_by, a_parameter, unbound}
+use Rattle.js_grammar.specs.Readers.{sign_of, next_sign, is_sign, taken_if, expect, name, name_if, name_by, any_word, word_by, semicolon, semicolon_by, listed, listed_by, parameters, parameters_by, a_parameter}
 use Rattle.law_readable.specs.Readable.{IsName}
-use Rattle.law_readable.proofs.Steps.{Where, step, Short, Gives, Reads, rest_short, Every, OfTurn, row_reads}
+use Rattle.law_readable.proofs.Steps.{Where, step, Short, Reads, rest_short, Every, OfTurn, row_reads}
 
 module _ (end : Place) where
   -- ---- what must come next

@@ -31,6 +31,11 @@ pub weaker : {A : Type 0} (P Q : A → Type 0) (m : Result A Refusal) → ((x : 
 weaker P Q (Ok x) f h = f x h
 weaker P Q (Err e) f h = tt
 
+-- what holds of a part, where it is there
+abbrev pub OfOption : {A : Type 0} → (A → Type 0) → Option A → Type 0
+OfOption P None = Unit {0}
+OfOption P (Some x) = P x
+
 -- at most n tokens are left
 abbrev pub Short : ℕ → List Token → Type 0
 Short n ts = length ts ≤ n

@@ -16,7 +16,8 @@ use Rattle.js_grammar.specs.Printing.{more_declared, expression_tokens, statemen
 use Rattle.js_grammar.specs.Bare.{bare_function, bare_statement}
 use Rattle.js_tree.specs.Tree.{Number, Characters, True, False, Null, This, Array, Object, Numbered, Suffixed, New, Unary, Chain, Conditional, Assign, Comma, Expressions, no_expression, an_expression, Items, no_item, an_item, Properties, no_property, a_property, SuffixTree, a_member, an_index, a_call, Suffixes, no_suffix, a_suffix as suffix_more, Operands, no_operand, an_operand as operand_more}
 use Rattle.law_readable.specs.Readable.{IsOwnName, IsExpression, IsOptional, AreExpressions, AreItems, AreProperties, IsSuffix, AreSuffixes, AreOperands, IsFunction, IsAnonymous, IsStatement, AreStatements, IsFinally, AreDeclared, AreBranches, AreClauses, IsCatch, has_declared, is_block}
-use Rattle.law_rereading.specs.Laws.{PrintedTokensAreReadAgain}
+use Rattle.law_rereading.specs.Laws.{PrintedTokensAreReadAgain, ScriptsReadAreReadAgain}
+use Rattle.law_readable.proofs.ReadScripts.{scripts_law as readable_law}
 use Rattle.law_rereading.proofs.Lists.{function_record, statement_list, statements_bare}
 use Rattle.law_rereading.proofs.RereadExpressions.{Rereads, name_again, unary_node, prefix_node, postfix_node}
 use Rattle.law_rereading.proofs.RereadRows.{RereadsArguments, RereadsParts, RereadsItems, RereadsProperties, no_arguments, no_parts, arguments_row, parts_row, comma_node, no_items, hole_row, item_row, array_node, no_properties, property_row, object_node}
@@ -190,3 +191,6 @@ pub printed_tokens_law : PrintedTokensAreReadAgain
 printed_tokens_law end body are =
     let again = script_again end (statements_of body) are in
     subst (λ (ts : List Token). script_without_limit end ts ≡ Ok (map bare_statement body)) (printed_all body) (again ∙ ap Ok (bare_all body))
+
+pub scripts_law : ScriptsReadAreReadAgain
+scripts_law end other room ts body is = printed_tokens_law other body (readable_law end room ts body is)

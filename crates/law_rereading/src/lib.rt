@@ -1,4 +1,5 @@
-//! The law that printed tokens are read again as the same tree, places put aside, for each tree that reading can give.
+//! The law that printed tokens are read again as the same tree, places put aside, for each readable tree
+//! and so for each script that reading gives.
 //!
 //! `specs/Laws.antt` states it on the definitions of js_grammar; which trees reading can give is law_readable's
 //! `AreStatements`. The crate has no code that runs. It stands on law_readable and js_grammar.
@@ -6,4 +7,4 @@
 
 mod laws;
 
-pub use laws::printed_tokens_are_read_again;
+pub use laws::{printed_tokens_are_read_again, scripts_read_are_read_again};
