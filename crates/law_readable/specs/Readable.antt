@@ -19,6 +19,7 @@ abbrev pub AreNames : List BoundName → Type 0
 AreNames [] = Unit {0}
 AreNames (x ∷ xs) = IsName x × AreNames xs
 
+-- the own name of a function expression, or none
 abbrev pub IsOwnName : Option BoundName → Type 0
 IsOwnName None = Unit {0}
 IsOwnName (Some x) = IsName x
@@ -31,6 +32,7 @@ abbrev pub has_operand : Operands → Bool
 has_operand no_operand = false
 has_operand (an_operand p op e os) = true
 
+-- commas part two expressions at least
 abbrev pub has_two : Expressions → Bool
 has_two no_expression = false
 has_two (an_expression e no_expression) = false
@@ -53,6 +55,7 @@ abbrev pub is_if : StatementTree → Bool
 is_if (If p bs s) = true
 is_if _ = false
 
+-- a block stands behind `try`, `catch` and `finally`
 abbrev pub is_block : StatementTree → Bool
 is_block (Block p ss) = true
 is_block _ = false
@@ -71,6 +74,7 @@ IsClosedBefore true s = ends_open s ≡ false
 IsClosedBefore false s = Unit {0}
 
 abbrev mutual
+  -- a function by its number is in no script that was read; a chain has operators of one of the ten levels
   pub IsExpression : ExpressionTree → Type 0
   IsExpression (Number p n) = Unit {0}
   IsExpression (Characters p x) = Unit {0}
@@ -117,13 +121,16 @@ abbrev mutual
   AreSuffixes no_suffix = Unit {0}
   AreSuffixes (a_suffix s ss) = IsSuffix s × AreSuffixes ss
 
+  -- k: the level of the operators
   pub AreOperands : ℕ → Operands → Type 0
   AreOperands k no_operand = Unit {0}
   AreOperands k (an_operand p op e os) = (level_of op ≡ k) × IsExpression e × AreOperands k os
 
+  -- the names of its scope are found later
   pub IsFunction : FunctionTree → Type 0
   IsFunction (a_function own parameters names body) = IsOwnName own × AreNames parameters × (names ≡ []) × AreStatements in_function body
 
+  -- a: what stands around the statement
   pub IsStatement : Around → StatementTree → Type 0
   IsStatement a (Block p ss) = AreStatements (inside a) ss
   IsStatement a (Empty p) = Unit {0}
@@ -144,6 +151,7 @@ abbrev mutual
   IsStatement a (Declare p x f) = (a.direct ≡ true) × IsName x × IsAnonymous f × IsFunction f
   IsStatement a (DeclareNumbered p x n) = ⊥
 
+  -- the name of a declaration isn't the function's own
   pub IsAnonymous : FunctionTree → Type 0
   IsAnonymous (a_function own parameters names body) = own ≡ None
 
@@ -151,6 +159,7 @@ abbrev mutual
   AreStatements a no_statement = Unit {0}
   AreStatements a (a_statement s ss) = IsStatement a s × AreStatements a ss
 
+  -- an `if` behind `else` is a branch
   pub IsOtherwise : Around → OptionalStatement → Type 0
   IsOtherwise a omitted = Unit {0}
   IsOtherwise a (given s) = (is_if s ≡ false) × IsStatement (inside a) s
@@ -163,6 +172,7 @@ abbrev mutual
   AreDeclared no_declared = Unit {0}
   AreDeclared (a_declared x o ds) = IsName x × IsOptional o × AreDeclared ds
 
+  -- last: whether an `else` follows the last of them
   pub AreBranches : Around → Bool → Branches → Type 0
   AreBranches a last no_branch = Unit {0}
   AreBranches a last (a_branch c s bs) = IsExpression c × IsStatement (inside a) s × IsClosedBefore (more_branches bs || last) s × AreBranches a last bs
@@ -172,6 +182,7 @@ abbrev mutual
   IsStart (start_var p ds) = (has_declared ds ≡ true) × AreDeclared ds
   IsStart (start_value e) = IsExpression e
 
+  -- a `for`-`in` writes to a target or to one declared name
   pub IsTarget : TargetTree → Type 0
   IsTarget (target_value e) = (is_target e ≡ true) × IsExpression e
   IsTarget (target_declared x o) = IsName x × IsOptional o

@@ -6,7 +6,7 @@ use Rattle.std.proofs.lemmas.List.{append-nil}
 use Rattle.js_tree.specs.declared.place.Place.{Place}
 use Rattle.js_tree.specs.declared.token.Token.{Token}
 use Rattle.js_tree.specs.declared.operators.UpdateForm.TheVariants.{Prefix, Postfix}
-use Rattle.js_tree.specs.Tree.{ExpressionTree, Name, Update, Function, OptionalExpression, absent, present, FunctionTree, a_function, StatementTree, Block, Empty, Evaluate, Debugger, Var, If, DoWhile, While, For, ForIn, Continue, Break, Return, Throw, Switch, Try, Declare, DeclareNumbered, OptionalStatement, omitted, given, Statements, no_statement, a_statement, Declarations, no_declared, a_declared, Branches, no_branch, a_branch, no_start, start_var, start_value, target_value, target_declared, Clauses, no_clause, a_clause, CatchTree, no_catch, a_catch, statements_of}
+use Rattle.js_tree.specs.Tree.{ExpressionTree, Name, Update, Function, OptionalExpression, absent, present, FunctionTree, a_function, StatementTree, Block, Empty, Evaluate, Debugger, Var, If, DoWhile, While, For, ForIn, Continue, Break, Return, Throw, Switch, Try, Declare, DeclareNumbered, OptionalStatement, omitted, given, Statements, no_statement, a_statement, Declarations, no_declared, a_declared, Branches, no_branch, a_branch, no_start, start_var, start_value, target_value, target_declared, Clauses, no_clause, a_clause, CatchTree, no_catch, a_catch, statements_of, Number, Characters, True, False, Null, This, Array, Object, Numbered, Suffixed, New, Unary, Chain, Conditional, Assign, Comma, Expressions, no_expression, an_expression, Items, no_item, an_item, Properties, no_property, a_property, SuffixTree, a_member, an_index, a_call, Suffixes, no_suffix, a_suffix as suffix_more, Operands, no_operand, an_operand as operand_more}
 use Rattle.js_tree.specs.View.{function_of}
 use Rattle.js_grammar.specs.declared.around.Around.{Around}
 use Rattle.js_grammar.specs.Readers.{row_of}
@@ -14,7 +14,6 @@ use Rattle.js_grammar.specs.Expressions.{primary, a_statement as statement_turn,
 use Rattle.js_grammar.specs.Statements.{deeper, at_top, script_within, script_without_limit, inside, in_loop, in_switch}
 use Rattle.js_grammar.specs.Printing.{more_declared, expression_tokens, statement_tokens, statements_tokens}
 use Rattle.js_grammar.specs.Bare.{bare_function, bare_statement}
-use Rattle.js_tree.specs.Tree.{Number, Characters, True, False, Null, This, Array, Object, Numbered, Suffixed, New, Unary, Chain, Conditional, Assign, Comma, Expressions, no_expression, an_expression, Items, no_item, an_item, Properties, no_property, a_property, SuffixTree, a_member, an_index, a_call, Suffixes, no_suffix, a_suffix as suffix_more, Operands, no_operand, an_operand as operand_more}
 use Rattle.law_readable.specs.Readable.{IsOwnName, IsExpression, IsOptional, AreExpressions, AreItems, AreProperties, IsSuffix, AreSuffixes, AreOperands, IsFunction, IsAnonymous, IsStatement, AreStatements, IsFinally, AreDeclared, AreBranches, AreClauses, IsCatch, has_declared, is_block}
 use Rattle.law_rereading.specs.Laws.{PrintedTokensAreReadAgain, ScriptsReadAreReadAgain}
 use Rattle.law_readable.proofs.ReadScripts.{scripts_law as readable_law}

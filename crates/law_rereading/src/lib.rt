@@ -1,4 +1,4 @@
-//! The law that printed tokens are read again as the same tree, places put aside, for each readable tree
+//! The law that printed tokens are read again as the same tree, places put aside, for each readable tree,
 //! and so for each script that reading gives.
 //!
 //! `specs/Laws.antt` states it on the definitions of js_grammar; which trees reading can give is law_readable's
