@@ -129,7 +129,7 @@ module _ (end : Place) where
       let d = deeper end room in
       let tree = For nowhere (start_var nowhere (bare_declarations ds)) (bare_optional c) (bare_optional e) (bare_statement s) in
       let list : row (declared_turn end d NoIn) ts ≡ Ok (declared_list ds, behind) = again_d room (length ts) NoIn behind (omega (arith, size, size2, size3, size4)) (omega (arith, size5)) some (ends_semicolon end (deeper end (room - 1)) NoIn us) in
-      let read = for_reads a (start_var nowhere (declarations_of (declared_list ds))) c e s room rest is_c is_e again_c again_e again_s (omega (arith, size, size2, size3, size4)) (omega (arith, size, size2, size3, size4)) (omega (arith, size, size2, size3, size4)) free ∙ ap (λ (x : Declarations). Ok (For nowhere (start_var nowhere x) (bare_optional c) (bare_optional e) (bare_statement s), rest)) (declarations_bare ds) in
+      let read : for_from end d a nowhere (start_var nowhere (declarations_of (declared_list ds))) behind ≡ Ok (tree, rest) = for_reads a (start_var nowhere (declarations_of (declared_list ds))) c e s room rest is_c is_e again_c again_e again_s (omega (arith, size, size2, size3, size4)) (omega (arith, size, size2, size3, size4)) (omega (arith, size, size2, size3, size4)) free ∙ ap (λ (x : Declarations). Ok (For nowhere (start_var nowhere x) (bare_optional c) (bare_optional e) (bare_statement s), rest)) (declarations_bare ds) in
       let whole = var_start d a ts us rest (declared_list ds) tree list read in
       rw (append_assoc (in_round inside_round) (statement_tokens s) rest, append_assoc names (sign_token sign.RightParenthesis ∷ []) (statement_tokens s ++ rest), append_assoc (declarations_tokens ds) middle (closed end (statement_tokens s ++ rest)), append_assoc (optional_tokens c) tail (closed end (statement_tokens s ++ rest))) (header d a (keyword_token word.Var ∷ ts) rest tree whole)
 
@@ -182,6 +182,6 @@ module _ (end : Place) where
       let at_end = ends_in end (deeper end (room - 1)) us in
       let turn : declared_turn end d NoIn ts ≡ Ok (Last (record { name = x; value = option_of o }), behind) = rw (name_reads end x (first_value_tokens o ++ behind) is, first_again end o room NoIn behind is_o again_o (omega (arith, size, size2, size3)) at_end.stops (at_end.none d)) (at_end.last (record { name = x; value = option_of o })) in
       let list : row (declared_turn end d NoIn) ts ≡ Ok (record { name = x; value = option_of o } ∷ [], behind) = row_last (declared_turn end d NoIn) (length ts) ts behind (record { name = x; value = option_of o }) turn in
-      let read = in_reads a (target_declared x (optional_of (option_of o))) e s room rest is_e again_e again_s (omega (arith, size, size2, size3)) (omega (arith, size, size2, size3)) free ∙ ap (λ (y : OptionalExpression). Ok (ForIn nowhere (target_declared x y) (bare_expression e) (bare_statement s), rest)) (option_bare o) in
+      let read : for_in_from end d a nowhere (target_declared x (optional_of (option_of o))) us ≡ Ok (tree, rest) = in_reads a (target_declared x (optional_of (option_of o))) e s room rest is_e again_e again_s (omega (arith, size, size2, size3)) (omega (arith, size, size2, size3)) free ∙ ap (λ (y : OptionalExpression). Ok (ForIn nowhere (target_declared x y) (bare_expression e) (bare_statement s), rest)) (option_bare o) in
       let whole = var_target d a ts us rest (record { name = x; value = option_of o }) tree list read in
       rw (append_assoc (in_round inside_round) (statement_tokens s) rest, append_assoc names (sign_token sign.RightParenthesis ∷ []) (statement_tokens s ++ rest), append_assoc (first_value_tokens o) middle (closed end (statement_tokens s ++ rest))) (header d a (keyword_token word.Var ∷ ts) rest tree whole)
