@@ -1,5 +1,6 @@
 -- What reading keeps of the tokens of a script, and that it does.
 use Rattle.std.specs.Prelude.{◌≡◌, ℕ, List, [], ◌∷◌, ◌++◌, Ok}
+use Rattle.std.specs.List.{flat_map}
 use Rattle.std.specs.Fmt.{signed_decimal}
 use Rattle.js_tree.specs.declared.place.Place.{Place}
 use Rattle.js_tree.specs.declared.token.Token.{Token}
@@ -34,11 +35,8 @@ abbrev pub bare_tokens : List Token → List BareToken
 bare_tokens [] = []
 bare_tokens (t ∷ ts) = bare_kind t.kind ++ bare_tokens ts
 
--- the tokens that the statements of a script are printed as
-abbrev pub script_tokens : List StatementTree → List Token
-script_tokens [] = []
-script_tokens (s ∷ ss) = statement_tokens s ++ script_tokens ss
-
 -- Where tokens spell a script, it is printed as the same bare tokens, whatever the room for nesting.
 abbrev pub ReadingKeepsTokens : Type 0
-ReadingKeepsTokens = (end : Place) (room : ℕ) (ts : List Token) (body : List StatementTree) → script_within end room ts ≡ Ok body → bare_tokens (script_tokens body) ≡ bare_tokens ts
+ReadingKeepsTokens =
+    (end : Place) (room : ℕ) (ts : List Token) (body : List StatementTree)
+    → script_within end room ts ≡ Ok body → bare_tokens (flat_map statement_tokens body) ≡ bare_tokens ts
