@@ -1,4 +1,5 @@
 pub mod Keeping
 pub mod Lists
+pub mod Operators
 pub mod Rows
 pub mod Steps
