@@ -1,7 +1,7 @@
 -- How tokens that are printed stem from tokens that were read.
 use Rattle.std.proofs.Common.{◌≡◌, ℕ, suc, ◌≤◌, List, [], ◌∷◌, ◌++◌, length, Option, Some, None, Ok, Err, Bool, true, false, refl, sym, ap, ◌∙◌, subst, arith}
 use Rattle.std.proofs.lemmas.List.{append-nil}
-use Rattle.std.specs.Prelude.{Result}
+use Rattle.std.specs.Prelude.{Result, if◌then◌else◌}
 use Rattle.js_tree.specs.declared.token.Token.{Token}
 use Rattle.js_tree.specs.declared.token.TokenKind.{TokenKind}
 use Rattle.js_tree.specs.declared.token.TokenKind.TheVariants as token
@@ -78,6 +78,10 @@ gives {P = P} x is = record { given = λ y same. let e : x ≡ y = cc in subst P
 
 pub refuses : {A E : Type 0} {P : A → Type 0} {e : E} → Gives P (Err e)
 refuses = record { given = λ y same. cc }
+
+pub by_test : {A E : Type 0} {P : A → Type 0} {m : Result A E} (e : E) (b : Bool) → Gives P m → Gives P (if b then m else Err e)
+by_test e true g = g
+by_test e false g = refuses
 
 -- a weaker thing holds too
 pub so : {A E : Type 0} {P Q : A → Type 0} {m : Result A E} → ((x : A) → P x → Q x) → Gives P m → Gives Q m
