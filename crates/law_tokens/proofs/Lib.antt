@@ -2,6 +2,8 @@ pub mod Keeping
 pub mod Lists
 pub mod Operators
 pub mod ReadExpressions
+pub mod ReadLoops
 pub mod ReadOperators
+pub mod ReadStatements
 pub mod Rows
 pub mod Steps

@@ -89,7 +89,7 @@ keyword_shortens (t ∷ ts) k h = omega arith
 
 -- ---- signs that must stand somewhere
 
-is_the_sign : (s : Sign) (o : Option Sign) → is_sign s o ≡ true → o ≡ Some s
+pub is_the_sign : (s : Sign) (o : Option Sign) → is_sign s o ≡ true → o ≡ Some s
 is_the_sign sign.LeftParenthesis (Some sign.LeftParenthesis) h = refl
 is_the_sign sign.LeftParenthesis _ h = cc
 is_the_sign sign.RightParenthesis (Some sign.RightParenthesis) h = refl
