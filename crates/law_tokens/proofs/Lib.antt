@@ -1,9 +1,11 @@
 pub mod Keeping
+pub mod Laws
 pub mod Lists
 pub mod Operators
 pub mod ReadExpressions
 pub mod ReadLoops
 pub mod ReadOperators
+pub mod ReadScripts
 pub mod ReadStatements
 pub mod Rows
 pub mod Steps

@@ -1,0 +1,36 @@
+-- Reading loses, invents and reorders no token but round brackets, commas and semicolons.
+use Rattle.std.proofs.Common.{◌≡◌, ℕ, List, [], ◌∷◌, ◌++◌, Option, Some, None, Ok, refl, sym, ap, ◌∙◌, subst, append_assoc}
+use Rattle.std.proofs.lemmas.List.{append-nil}
+use Rattle.std.specs.List.{flat_map}
+use Rattle.std.specs.Fmt.{signed_decimal}
+use Rattle.js_tree.specs.declared.place.Place.{Place}
+use Rattle.js_tree.specs.declared.token.Token.{Token}
+use Rattle.js_tree.specs.declared.token.TokenKind.{TokenKind}
+use Rattle.js_tree.specs.declared.token.TokenKind.TheVariants as token
+use Rattle.js_tree.specs.declared.sign.Sign.{Sign}
+use Rattle.js_tree.specs.Tree.{StatementTree}
+use Rattle.js_grammar.specs.Expressions.{name_in}
+use Rattle.js_grammar.specs.Statements.{script_within}
+use Rattle.js_grammar.specs.Printing.{statement_tokens}
+use Rattle.law_tokens.specs.Law.{BareToken, a_text, bare_kind, bare_tokens, ReadingKeepsTokens}
+use Rattle.law_tokens.proofs.Keeping.{Keeps, done, kept, named, added, left_out}
+use Rattle.law_tokens.proofs.ReadScripts.{script_keeps}
+
+-- a name is bare as its text
+name_bare : (k : TokenKind) (x : List ℕ) → name_in k ≡ Some x → bare_kind k ≡ a_text x ∷ []
+name_bare (token.Word w) x h = let e : w ≡ x = cc in ap (λ y. a_text y ∷ []) e
+name_bare (token.Text w) x h = let e : w ≡ x = cc in ap (λ y. a_text y ∷ []) e
+name_bare (token.Number n) x h = let e : signed_decimal n ≡ x = cc in ap (λ y. a_text y ∷ []) e
+name_bare (token.Sign s) x h = cc
+
+keeps_bare : {out before rest : List Token} → Keeps out before rest → bare_tokens before ≡ bare_tokens out ++ bare_tokens rest
+keeps_bare (done ts) = refl
+keeps_bare {rest = rest} (kept k t out before r e h) = rw (e, keeps_bare h) (sym (append_assoc (bare_kind k) (bare_tokens out) (bare_tokens rest)))
+keeps_bare {rest = rest} (named x t out before r e h) = rw (name_bare t.kind x e, keeps_bare h) refl
+keeps_bare {rest = rest} (added s out before r e h) = rw (e, keeps_bare h) refl
+keeps_bare {rest = rest} (left_out t out before r e h) = rw (e, keeps_bare h) refl
+
+-- Where tokens spell a script, it is printed as the same bare tokens.
+pub reading_keeps : ReadingKeepsTokens
+reading_keeps end room ts body e =
+    sym (keeps_bare ((script_keeps end room ts).given body e) ∙ append-nil (bare_tokens (flat_map statement_tokens body)))
