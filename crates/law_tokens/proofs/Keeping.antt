@@ -10,7 +10,7 @@ use Rattle.js_tree.specs.declared.sign.Sign.TheVariants as sign
 use Rattle.js_grammar.specs.Reading.{◌>>=◌}
 use Rattle.js_grammar.specs.Expressions.{name_in}
 use Rattle.js_grammar.specs.Printing.{printed, sign_token, in_round, in_square, in_braces, comma_if}
-use Rattle.law_tokens.specs.Law.{bare_kind}
+use Rattle.law_tokens.specs.BareTokens.{bare_kind}
 
 -- Of the tokens `before` those up to `rest` were read, and `out` is printed for them. Each printed token is one that was
 -- read, or the text of a name that was read; tokens that are left out of bare ones come and go.

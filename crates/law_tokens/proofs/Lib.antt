@@ -1,5 +1,5 @@
 pub mod Keeping
-pub mod Laws
+pub mod KeptTokens
 pub mod Lists
 pub mod Operators
 pub mod ReadExpressions

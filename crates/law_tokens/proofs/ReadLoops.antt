@@ -23,7 +23,7 @@ use Rattle.js_grammar.specs.Operators.{is_target}
 use Rattle.js_grammar.specs.Expressions.{Deeper, expression, in_parentheses}
 use Rattle.js_grammar.specs.Statements.{inside, in_loop, statement_or_none, before_in, semicolon_if, a_declared, one_branch, branch_by, a_branch, otherwise_by, otherwise, if_statement, while_by, do_statement, while_statement, optional_by, optional_expression, for_from, for_in_from, for_var_by, for_var, for_value_by, for_value, for_word, for_by, for_statement}
 use Rattle.js_grammar.specs.Printing.{sign_token, word_token, keyword_token, in_round, else_if, more_branches, expression_tokens, optional_tokens, statement_tokens, otherwise_tokens, declarations_tokens, first_value_tokens, branches_tokens, start_tokens, target_tokens}
-use Rattle.law_tokens.specs.Law.{bare_kind}
+use Rattle.law_tokens.specs.BareTokens.{bare_kind}
 use Rattle.law_tokens.proofs.Keeping.{Keeps, done, behind, and_skips, without_nil, no_longer, with_sign, round, semicolon_behind, Gives, and_then, gives, refuses, by_test, so, Keeping}
 use Rattle.law_tokens.proofs.Steps.{sign_taken, sign_skipped, keyword_taken, keyword_shortens, is_the_sign, expect_takes, expect_skips}
 use Rattle.law_tokens.proofs.Lists.{declared_list}

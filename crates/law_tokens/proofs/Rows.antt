@@ -11,7 +11,7 @@ use Rattle.js_grammar.specs.declared.turn.Turn.TheVariants.{More, Last, End}
 use Rattle.js_grammar.specs.Reading.{Refusal, ◌>>=◌}
 use Rattle.js_grammar.specs.Readers.{Reader, row_of, row, turned, rest_of, next_sign, expect, listed, listed_by, parted}
 use Rattle.js_grammar.specs.Printing.{sign_token}
-use Rattle.law_tokens.specs.Law.{bare_kind}
+use Rattle.law_tokens.specs.BareTokens.{bare_kind}
 use Rattle.law_tokens.proofs.Keeping.{Keeps, done, behind, and_skips, no_longer, Gives, and_then, gives, refuses, so, Keeping}
 use Rattle.law_tokens.proofs.Steps.{sign_skipped, sign_shortens, expect_takes, expect_skips}
 

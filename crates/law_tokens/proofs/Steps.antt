@@ -17,7 +17,7 @@ use Rattle.js_grammar.specs.Reading.{Refusal, ◌>>=◌}
 use Rattle.js_grammar.specs.Words.{same, keyword_spelling, keywords, keyword_of}
 use Rattle.js_grammar.specs.Readers.{Reader, row_of, row, turned, rest_of, sign_of, next_sign, keyword_in, next_keyword, is_sign, unbound, taken_if, expect, name, name_by, name_if, any_word, word_by, semicolon, semicolon_by, listed, listed_by, parted}
 use Rattle.js_grammar.specs.Printing.{printed, sign_token, word_token, keyword_token}
-use Rattle.law_tokens.specs.Law.{bare_kind}
+use Rattle.law_tokens.specs.BareTokens.{bare_kind}
 use Rattle.law_tokens.proofs.Keeping.{Keeps, done, kept, left_out, behind, and_skips, no_longer, Gives, and_then, gives, refuses, so, Keeping}
 
 -- ---- words that are reserved

@@ -1,12 +1,9 @@
-//! Reading a script loses, invents and reorders no token but round brackets, commas and semicolons: the law that binds the
-//! definitions of reading and of printing, which stand in js_grammar. There is no code to call: `specs/` states the law, and
-//! `proofs/` proves it.
+//! The law that reading a script loses, invents and reorders no token but round brackets, commas and semicolons.
+//!
+//! `specs/Laws.antt` states it on the definitions of js_grammar: a script is printed as the tokens that it was read from, as
+//! far as `specs/BareTokens.antt` says. The crate has no code that runs. It stands on js_grammar.
 #![tactic(auto)]
 
-ghost use Rattle.law_tokens.specs.Law.{ReadingKeepsTokens};
+mod laws;
 
-/// A script that was read is printed as the tokens that were read, but for round brackets, commas and semicolons.
-pub fn reading_keeps_tokens()
-    ensures { ReadingKeepsTokens }
-{
-}
+pub use laws::reading_keeps_tokens;

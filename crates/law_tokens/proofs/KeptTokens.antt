@@ -1,7 +1,8 @@
 -- Reading loses, invents and reorders no token but round brackets, commas and semicolons.
 use Rattle.std.proofs.Common.{◌≡◌, ℕ, List, [], ◌∷◌, ◌++◌, Option, Some, None, Ok, refl, sym, ap, ◌∙◌, subst, append_assoc}
 use Rattle.std.proofs.lemmas.List.{append-nil}
-use Rattle.std.specs.List.{flat_map}
+use Rattle.std.proofs.lemmas.List.Elements.{All-nil, All-cons, All-head, All-tail}
+use Rattle.std.specs.List.{flat_map, All}
 use Rattle.std.specs.Fmt.{signed_decimal}
 use Rattle.js_tree.specs.declared.place.Place.{Place}
 use Rattle.js_tree.specs.declared.token.Token.{Token}
@@ -11,8 +12,9 @@ use Rattle.js_tree.specs.declared.sign.Sign.{Sign}
 use Rattle.js_tree.specs.Tree.{StatementTree}
 use Rattle.js_grammar.specs.Expressions.{name_in}
 use Rattle.js_grammar.specs.Statements.{script_within}
-use Rattle.js_grammar.specs.Printing.{statement_tokens}
-use Rattle.law_tokens.specs.Law.{BareToken, a_text, bare_kind, bare_tokens, ReadingKeepsTokens}
+use Rattle.js_grammar.specs.Printing.{printed, statement_tokens}
+use Rattle.law_tokens.specs.BareTokens.{a_text, bare_kind, bare_tokens}
+use Rattle.law_tokens.specs.Laws.{ReadingKeepsTokens, HoldsOfNames, HoldsOfPrinted}
 use Rattle.law_tokens.proofs.Keeping.{Keeps, done, kept, named, added, left_out}
 use Rattle.law_tokens.proofs.ReadScripts.{script_keeps}
 
@@ -30,7 +32,22 @@ keeps_bare {rest = rest} (named x t out before r e h) = rw (name_bare t.kind x e
 keeps_bare {rest = rest} (added s out before r e h) = rw (e, keeps_bare h) refl
 keeps_bare {rest = rest} (left_out t out before r e h) = rw (e, keeps_bare h) refl
 
--- Where tokens spell a script, it is printed as the same bare tokens.
 pub reading_keeps : ReadingKeepsTokens
 reading_keeps end room ts body e =
     sym (keeps_bare ((script_keeps end room ts).given body e) ∙ append-nil (bare_tokens (flat_map statement_tokens body)))
+
+module _ (P : TokenKind → Type 0) (holds : HoldsOfNames P) where
+  abbrev OfKind : Token → Type 0
+  OfKind t = P t.kind
+
+  keeps_holds : {out before rest : List Token} → Keeps out before rest → All OfKind before → All OfKind out
+  keeps_holds (done ts) all = All-nil OfKind
+  keeps_holds (kept k t out before r e h) all =
+      All-cons OfKind (printed k) out (subst P e (All-head OfKind t before all)) (keeps_holds h (All-tail OfKind t before all))
+  keeps_holds (named x t out before r e h) all =
+      All-cons OfKind (printed (token.Text x)) out (holds.name t.kind x e (All-head OfKind t before all)) (keeps_holds h (All-tail OfKind t before all))
+  keeps_holds (added s out before r e h) all = All-cons OfKind (printed (token.Sign s)) out (holds.sign s) (keeps_holds h all)
+  keeps_holds (left_out t out before r e h) all = keeps_holds h (All-tail OfKind t before all)
+
+  pub holds_of_printed : HoldsOfPrinted P
+  holds_of_printed end room ts body e all = keeps_holds ((script_keeps end room ts).given body e) all
