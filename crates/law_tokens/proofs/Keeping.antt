@@ -1,5 +1,5 @@
 -- How tokens that are printed stem from tokens that were read.
-use Rattle.std.proofs.Common.{◌≡◌, ℕ, suc, ◌≤◌, List, [], ◌∷◌, ◌++◌, length, Option, Some, None, Ok, Err, Bool, true, false, refl, sym, ap, ◌∙◌, subst, arith}
+use Rattle.std.proofs.Common.{◌≡◌, ℕ, ◌≤◌, List, [], ◌∷◌, ◌++◌, length, Some, Ok, Err, Bool, true, false, refl, sym, subst, arith}
 use Rattle.std.proofs.lemmas.List.{append-nil}
 use Rattle.std.specs.Prelude.{Result, if◌then◌else◌}
 use Rattle.js_tree.specs.declared.token.Token.{Token}
@@ -9,7 +9,7 @@ use Rattle.js_tree.specs.declared.sign.Sign.{Sign}
 use Rattle.js_tree.specs.declared.sign.Sign.TheVariants as sign
 use Rattle.js_grammar.specs.Reading.{◌>>=◌}
 use Rattle.js_grammar.specs.Expressions.{name_in}
-use Rattle.js_grammar.specs.Printing.{printed, sign_token, in_round, in_square, in_braces, comma_if}
+use Rattle.js_grammar.specs.Printing.{printed, sign_token, in_round, comma_if}
 use Rattle.law_tokens.specs.BareTokens.{bare_kind}
 
 -- Of the tokens `before` those up to `rest` were read, and `out` is printed for them. Each printed token is one that was

@@ -1,17 +1,13 @@
 -- Reading loses, invents and reorders no token but round brackets, commas and semicolons.
-use Rattle.std.proofs.Common.{◌≡◌, ℕ, List, [], ◌∷◌, ◌++◌, Option, Some, None, Ok, refl, sym, ap, ◌∙◌, subst, append_assoc}
+use Rattle.std.proofs.Common.{◌≡◌, ℕ, List, [], ◌∷◌, ◌++◌, Some, refl, sym, ap, ◌∙◌, subst, append_assoc}
 use Rattle.std.proofs.lemmas.List.{append-nil}
 use Rattle.std.proofs.lemmas.List.Elements.{All-nil, All-cons, All-head, All-tail}
 use Rattle.std.specs.List.{flat_map, All}
 use Rattle.std.specs.Fmt.{signed_decimal}
-use Rattle.js_tree.specs.declared.place.Place.{Place}
 use Rattle.js_tree.specs.declared.token.Token.{Token}
 use Rattle.js_tree.specs.declared.token.TokenKind.{TokenKind}
 use Rattle.js_tree.specs.declared.token.TokenKind.TheVariants as token
-use Rattle.js_tree.specs.declared.sign.Sign.{Sign}
-use Rattle.js_tree.specs.Tree.{StatementTree}
 use Rattle.js_grammar.specs.Expressions.{name_in}
-use Rattle.js_grammar.specs.Statements.{script_within}
 use Rattle.js_grammar.specs.Printing.{printed, statement_tokens}
 use Rattle.law_tokens.specs.BareTokens.{a_text, bare_kind, bare_tokens}
 use Rattle.law_tokens.specs.Laws.{ReadingKeepsTokens, HoldsOfNames, HoldsOfPrinted}

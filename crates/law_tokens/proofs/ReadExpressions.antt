@@ -1,7 +1,6 @@
 -- What the readers of expressions keep, up to primary ones: one lemma for each production.
-use Rattle.std.proofs.Common.{◌≡◌, ℕ, zero, suc, ◌<◌, List, [], ◌∷◌, ◌++◌, length, Option, Some, None, Ok, Err, Bool, true, false, refl, sym, ap, ◌∙◌, subst}
+use Rattle.std.proofs.Common.{◌≡◌, ℕ, List, [], ◌∷◌, ◌++◌, Option, Some, None, Ok, Bool, true, false, refl, sym, ap, ◌∙◌, subst}
 use Rattle.std.proofs.lemmas.List.{append-nil}
-use Rattle.std.specs.Prelude.{Result}
 use Rattle.js_tree.specs.declared.place.Place.{Place}
 use Rattle.js_tree.specs.declared.token.Token.{Token}
 use Rattle.js_tree.specs.declared.token.TokenKind.{TokenKind}
@@ -9,11 +8,10 @@ use Rattle.js_tree.specs.declared.token.TokenKind.TheVariants as token
 use Rattle.js_tree.specs.declared.sign.Sign.{Sign}
 use Rattle.js_tree.specs.declared.sign.Sign.TheVariants as sign
 use Rattle.js_tree.specs.declared.bound.BoundName.{BoundName}
-use Rattle.js_tree.specs.declared.expression.Property.{Property}
 use Rattle.js_tree.specs.declared.expression.Function.{Function as FunctionRecord}
-use Rattle.js_tree.specs.Tree.{ExpressionTree, Number, Characters, True, False, Null, This, Name, Array, Object, Function, New, Comma, a_function, StatementTree, expressions_of, items_of, statements_of}
+use Rattle.js_tree.specs.Tree.{ExpressionTree, Number, Characters, True, False, Null, This, Name, Array, Object, Function, New, a_function, expressions_of, items_of, statements_of}
 use Rattle.js_tree.specs.View.{properties_of, function_of}
-use Rattle.js_grammar.specs.declared.turn.Turn.TheVariants.{More, Last, End}
+use Rattle.js_grammar.specs.declared.turn.Turn.TheVariants.{More, End}
 use Rattle.js_grammar.specs.declared.keyword.Keyword.{Keyword}
 use Rattle.js_grammar.specs.declared.keyword.Keyword.TheVariants as word
 use Rattle.js_grammar.specs.declared.form.Form.{Form}
@@ -21,13 +19,13 @@ use Rattle.js_grammar.specs.declared.form.Form.TheVariants.{Plain}
 use Rattle.js_grammar.specs.declared.around.Around.{Around}
 use Rattle.js_grammar.specs.Words.{keyword_spelling, keyword_of}
 use Rattle.js_grammar.specs.Reading.{◌>>=◌}
-use Rattle.js_grammar.specs.Readers.{row, rest_of, next_sign, place_at, expect, name, unbound, a_parameter, parameters, parameters_by}
-use Rattle.js_grammar.specs.Expressions.{Deeper, joined, name_in, next_name, is_accessor, closes, statement_unless, a_statement, in_function, a_part, expression, in_parentheses, an_argument, arguments_by, arguments, item_value, item_by, an_item, property_from, property_by, named_property, property_or_end, a_property, function_from, function_by, function_expression, new_arguments_by, new_arguments, new_expression, word_value, sign_value, primary_by, primary}
+use Rattle.js_grammar.specs.Readers.{row, rest_of, next_sign, place_at, name, unbound, a_parameter, parameters, parameters_by}
+use Rattle.js_grammar.specs.Expressions.{Deeper, joined, next_name, is_accessor, closes, statement_unless, a_statement, in_function, a_part, expression, in_parentheses, an_argument, arguments_by, arguments, item_value, item_by, an_item, property_from, property_by, named_property, property_or_end, a_property, function_from, function_by, function_expression, new_arguments_by, new_arguments, new_expression, word_value, sign_value, primary_by, primary}
 use Rattle.js_grammar.specs.Printing.{printed, sign_token, word_token, keyword_token, own_name_tokens, parameters_tokens, expression_tokens, expressions_tokens, optional_tokens, function_tokens, statement_tokens}
 use Rattle.law_tokens.proofs.Keeping.{Keeps, done, named, behind, and_skips, round, Gives, and_then, gives, refuses, so, Keeping}
 use Rattle.law_tokens.proofs.Steps.{keyword_spelled, taken, sign_taken, sign_skipped, sign_shortens, expect_takes, expect_skips, name_keeps}
 use Rattle.law_tokens.proofs.Rows.{KeepingTurn, row_keeps, ClosingTurn, row_closes, parted_keeps, listed_keeps, listed_closes}
-use Rattle.law_tokens.proofs.Lists.{expression_list, expressions_list, item_part, item_list, items_list, property_part, property_list, properties_list, name_part, parameters_list, statement_list, statements_list}
+use Rattle.law_tokens.proofs.Lists.{expression_list, expressions_list, item_part, items_list, property_part, properties_list, name_part, parameters_list, statements_list}
 
 -- what the readers of nested parts read is printed as it was read
 pub record KeepsDeeper (d : Deeper) : Type 0 where
@@ -177,7 +175,7 @@ module _ (end : Place) where
       and_then _ (row_keeps statements_list (a_statement d in_function) (a_statement_keeps d g in_function) open_body) (λ body n.
       and_then _ (expect_takes end sign.RightBrace body.1) (λ rest o.
       gives (record { name = own; parameters = given.0; names = []; body = body.0 }, rest)
-        (refl, behind (round (behind k l)) (behind m (behind n o))))))))
+      (refl, behind (round (behind k l)) (behind m (behind n o))))))))
 
   -- a function declaration has no own name
   pub unnamed_keeps : (d : Deeper) (g : KeepsDeeper d) (ts : List Token) → Gives (Keeping (λ f. function_tokens (function_of f)) ts) (function_from end d None ts)

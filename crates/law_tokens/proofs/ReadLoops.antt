@@ -1,5 +1,5 @@
 -- What the readers of `if` and of loops keep: one lemma for each production.
-use Rattle.std.proofs.Common.{◌≡◌, ℕ, zero, suc, ◌<◌, ◌≤◌, List, [], ◌∷◌, ◌++◌, length, Option, Some, None, Ok, Err, Bool, true, false, refl, sym, ap, subst, arith, append_assoc}
+use Rattle.std.proofs.Common.{◌≡◌, ℕ, zero, suc, ◌<◌, ◌≤◌, List, [], ◌∷◌, ◌++◌, length, Option, Some, None, Bool, true, false, refl, ap, subst, arith}
 use Rattle.std.proofs.lemmas.List.{append-nil}
 use Rattle.std.specs.Prelude.{Result}
 use Rattle.js_tree.specs.declared.place.Place.{Place}
@@ -17,15 +17,15 @@ use Rattle.js_grammar.specs.declared.keyword.Keyword.{Keyword}
 use Rattle.js_grammar.specs.declared.keyword.Keyword.TheVariants as word
 use Rattle.js_grammar.specs.declared.form.Form.TheVariants.{NoIn}
 use Rattle.js_grammar.specs.declared.around.Around.{Around}
-use Rattle.js_grammar.specs.Reading.{Refusal, ◌>>=◌}
-use Rattle.js_grammar.specs.Readers.{row_of, row, turned, rest_of, next_sign, next_keyword, is_sign, place_at, expect}
+use Rattle.js_grammar.specs.Reading.{Refusal}
+use Rattle.js_grammar.specs.Readers.{row_of, turned, rest_of, next_sign, next_keyword, is_sign, place_at}
 use Rattle.js_grammar.specs.Operators.{is_target}
-use Rattle.js_grammar.specs.Expressions.{Deeper, expression, in_parentheses}
-use Rattle.js_grammar.specs.Statements.{inside, in_loop, statement_or_none, before_in, semicolon_if, a_declared, one_branch, branch_by, a_branch, otherwise_by, otherwise, if_statement, while_by, do_statement, while_statement, optional_by, optional_expression, for_from, for_in_from, for_var_by, for_var, for_value_by, for_value, for_word, for_by, for_statement}
-use Rattle.js_grammar.specs.Printing.{sign_token, word_token, keyword_token, in_round, else_if, more_branches, expression_tokens, optional_tokens, statement_tokens, otherwise_tokens, declarations_tokens, first_value_tokens, branches_tokens, start_tokens, target_tokens}
+use Rattle.js_grammar.specs.Expressions.{Deeper}
+use Rattle.js_grammar.specs.Statements.{inside, in_loop, statement_or_none, before_in, semicolon_if, one_branch, branch_by, a_branch, otherwise_by, otherwise, if_statement, while_by, do_statement, while_statement, optional_by, optional_expression, for_from, for_in_from, for_var_by, for_var, for_value_by, for_value, for_word, for_by, for_statement}
+use Rattle.js_grammar.specs.Printing.{word_token, keyword_token, in_round, else_if, more_branches, expression_tokens, optional_tokens, statement_tokens, otherwise_tokens, declarations_tokens, first_value_tokens, branches_tokens, start_tokens, target_tokens}
 use Rattle.law_tokens.specs.BareTokens.{bare_kind}
-use Rattle.law_tokens.proofs.Keeping.{Keeps, done, behind, and_skips, without_nil, no_longer, with_sign, round, semicolon_behind, Gives, and_then, gives, refuses, by_test, so, Keeping}
-use Rattle.law_tokens.proofs.Steps.{sign_taken, sign_skipped, keyword_taken, keyword_shortens, is_the_sign, expect_takes, expect_skips}
+use Rattle.law_tokens.proofs.Keeping.{Keeps, done, behind, and_skips, no_longer, with_sign, round, semicolon_behind, Gives, and_then, gives, refuses, by_test, Keeping}
+use Rattle.law_tokens.proofs.Steps.{sign_skipped, keyword_taken, keyword_shortens, is_the_sign, expect_skips}
 use Rattle.law_tokens.proofs.Lists.{declared_list}
 use Rattle.law_tokens.proofs.ReadExpressions.{KeepsDeeper, expression_keeps, in_parentheses_keeps}
 use Rattle.law_tokens.proofs.ReadStatements.{declarations_keep}
@@ -134,7 +134,7 @@ module _ (end : Place) where
       and_then _ (while_by_keeps (next_keyword body.1) body.1 refl) (λ rest l.
       and_then _ (in_parentheses_keeps end d g rest) (λ condition m.
       gives (DoWhile p body.0 condition.0, semicolon_if (next_sign condition.1) condition.1)
-        (behind h (behind k (behind l (semicolon_behind (and_skips (round m) (semicolon_if_skips (next_sign condition.1) condition.1 refl)))))))))
+      (behind h (behind k (behind l (semicolon_behind (and_skips (round m) (semicolon_if_skips (next_sign condition.1) condition.1 refl)))))))))
 
   pub while_keeps : (d : Deeper) (g : KeepsDeeper d) (around : Around) (p : Place) (before ts : List Token) → Keeps (keyword_token word.While ∷ []) before ts → Gives (Keeping statement_tokens before) (while_statement end d around p ts)
   unfolding while_statement statement_tokens
@@ -165,7 +165,7 @@ module _ (end : Place) where
       and_then _ (optional_keeps d g sign.RightParenthesis condition.1 refl) (λ step n.
       and_then _ (g.statement (in_loop around) step.1) (λ body o.
       gives (For p start (optional_of condition.0) (optional_of step.0) body.0, body.1)
-        (behind h (behind (round (behind k (with_sign sign.Semicolon refl (behind l (behind m (with_sign sign.Semicolon refl n)))))) o))))))
+      (behind h (behind (round (behind k (with_sign sign.Semicolon refl (behind l (behind m (with_sign sign.Semicolon refl n)))))) o))))))
 
   for_in_from_keeps : (d : Deeper) (g : KeepsDeeper d) (around : Around) (p : Place) (target : TargetTree) (before begun mid ts : List Token) → Keeps (keyword_token word.For ∷ []) before begun → Keeps (target_tokens target) begun mid → Keeps (keyword_token word.In ∷ []) mid ts → Gives (Keeping statement_tokens before) (for_in_from end d around p target ts)
   unfolding for_in_from statement_tokens

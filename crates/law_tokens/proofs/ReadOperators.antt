@@ -1,9 +1,7 @@
 -- What the readers of suffixes and operators keep: one lemma for each production.
-use Rattle.std.proofs.Common.{◌≡◌, ℕ, zero, suc, List, [], ◌∷◌, ◌++◌, Option, Some, None, Ok, Err, Bool, true, false, refl}
-use Rattle.std.specs.Prelude.{Result, if◌then◌else◌}
+use Rattle.std.proofs.Common.{◌≡◌, ℕ, zero, suc, List, [], ◌∷◌, Option, Some, None, Ok, refl}
 use Rattle.js_tree.specs.declared.place.Place.{Place}
 use Rattle.js_tree.specs.declared.token.Token.{Token}
-use Rattle.js_tree.specs.declared.token.TokenKind.TheVariants as token
 use Rattle.js_tree.specs.declared.sign.Sign.{Sign}
 use Rattle.js_tree.specs.declared.sign.Sign.TheVariants as sign
 use Rattle.js_tree.specs.declared.operators.UpdateForm.TheVariants.{Prefix, Postfix}
@@ -14,18 +12,18 @@ use Rattle.js_tree.specs.declared.operators.AssignOp.{AssignOp}
 use Rattle.js_tree.specs.declared.expression.Suffix.{Suffix}
 use Rattle.js_tree.specs.declared.expression.SuffixNode.TheVariants as suffix
 use Rattle.js_tree.specs.declared.expression.Operand.{Operand}
-use Rattle.js_tree.specs.Tree.{ExpressionTree, Suffixed, Update, Unary, Chain, Conditional, Assign}
-use Rattle.js_grammar.specs.declared.turn.Turn.TheVariants.{More, Last, End}
+use Rattle.js_tree.specs.Tree.{ExpressionTree, Update, Unary, Conditional, Assign}
+use Rattle.js_grammar.specs.declared.turn.Turn.TheVariants.{More, End}
 use Rattle.js_grammar.specs.declared.form.Form.{Form}
 use Rattle.js_grammar.specs.declared.form.Form.TheVariants.{Plain}
 use Rattle.js_grammar.specs.declared.form.LeftSide.{LeftSide}
 use Rattle.js_grammar.specs.declared.form.LeftSide.TheVariants as side
 use Rattle.js_grammar.specs.Reading.{◌>>=◌}
-use Rattle.js_grammar.specs.Readers.{Reader, row, rest_of, next_sign, place_at, expect, any_word}
+use Rattle.js_grammar.specs.Readers.{Reader, rest_of, next_sign, place_at, expect, any_word}
 use Rattle.js_grammar.specs.Operators.{next_unary, next_update, next_postfix, next_binary, at_level, next_assign, is_target}
-use Rattle.js_grammar.specs.Expressions.{Deeper, chained, suffixed_by, expression, arguments, suffix_by, a_suffix, primary, suffixed, postfix_by, postfix, updated, unary_by, unary, operand_by, an_operand, chain, level, conditional_by, conditional, assigned_by, assignment}
+use Rattle.js_grammar.specs.Expressions.{Deeper, chained, suffixed_by, expression, arguments, suffix_by, a_suffix, suffixed, postfix_by, postfix, updated, unary_by, unary, operand_by, an_operand, chain, level, conditional_by, conditional, assigned_by, assignment}
 use Rattle.js_grammar.specs.Printing.{sign_token, expression_tokens, suffix_tokens, suffixes_tokens, operands_tokens}
-use Rattle.law_tokens.proofs.Keeping.{Keeps, done, behind, and_skips, round, Gives, and_then, gives, refuses, by_test, Keeping}
+use Rattle.law_tokens.proofs.Keeping.{Keeps, done, behind, and_skips, round, Gives, and_then, gives, by_test, Keeping}
 use Rattle.law_tokens.proofs.Steps.{sign_taken, sign_skipped, expect_takes, any_word_keeps}
 use Rattle.law_tokens.proofs.Operators.{unary_taken, update_taken, postfix_taken, operator_taken, assign_taken}
 use Rattle.law_tokens.proofs.Rows.{KeepingTurn, row_keeps}

@@ -1,5 +1,5 @@
 -- What reading a statement, with so much room for nesting, and a whole script keeps.
-use Rattle.std.proofs.Common.{◌≡◌, ℕ, zero, suc, List, [], ◌∷◌, ◌++◌, Option, Some, None, Ok, Err, refl, sym, ap, ◌∙◌, subst}
+use Rattle.std.proofs.Common.{◌≡◌, ℕ, zero, suc, List, [], ◌∷◌, Option, Some, None, refl, ap}
 use Rattle.std.specs.List.{flat_map}
 use Rattle.js_tree.specs.declared.place.Place.{Place}
 use Rattle.js_tree.specs.declared.token.Token.{Token}
@@ -16,8 +16,8 @@ use Rattle.js_grammar.specs.Words.{keyword_of}
 use Rattle.js_grammar.specs.Readers.{rest_of, next_sign, keyword_in, next_keyword}
 use Rattle.js_grammar.specs.Expressions.{Deeper, a_statement}
 use Rattle.js_grammar.specs.Statements.{at_top, whole, unlabelled, word_statement, statement_by, statement, deeper, script_within}
-use Rattle.js_grammar.specs.Printing.{keyword_token, statement_tokens}
-use Rattle.law_tokens.proofs.Keeping.{Keeps, behind, semicolon_behind, and_skips, Gives, and_then, gives, refuses, Keeping}
+use Rattle.js_grammar.specs.Printing.{statement_tokens}
+use Rattle.law_tokens.proofs.Keeping.{Keeps, semicolon_behind, and_skips, Gives, and_then, gives, refuses, Keeping}
 use Rattle.law_tokens.proofs.Steps.{taken, keyword_taken}
 use Rattle.law_tokens.proofs.Rows.{row_keeps}
 use Rattle.law_tokens.proofs.Lists.{script_list}

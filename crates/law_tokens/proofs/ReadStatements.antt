@@ -1,30 +1,28 @@
 -- What the readers of simple statements and of `switch`, `try` and functions keep: one lemma for each production.
-use Rattle.std.proofs.Common.{◌≡◌, ℕ, List, [], ◌∷◌, ◌++◌, Option, Some, None, Ok, Err, Bool, true, false, refl, sym, ap, subst}
+use Rattle.std.proofs.Common.{◌≡◌, List, [], ◌∷◌, ◌++◌, Option, Some, None, Bool, true, false, refl, sym, subst}
 use Rattle.js_tree.specs.declared.place.Place.{Place}
 use Rattle.js_tree.specs.declared.token.Token.{Token}
 use Rattle.js_tree.specs.declared.sign.Sign.{Sign}
 use Rattle.js_tree.specs.declared.sign.Sign.TheVariants as sign
 use Rattle.js_tree.specs.declared.bound.BoundName.{BoundName}
-use Rattle.js_tree.specs.declared.statement.Declared.{Declared}
 use Rattle.js_tree.specs.declared.statement.Clause.{Clause}
 use Rattle.js_tree.specs.declared.statement.Catch.{Catch}
 use Rattle.js_tree.specs.Tree.{ExpressionTree, StatementTree, Block, Evaluate, Var, Return, Throw, Switch, Try, Declare, absent, present, optional_of, statements_of}
 use Rattle.js_tree.specs.View.{function_of, declarations_of, clauses_of}
-use Rattle.js_grammar.specs.declared.turn.Turn.TheVariants.{More, Last, End}
+use Rattle.js_grammar.specs.declared.turn.Turn.TheVariants.{More, End}
 use Rattle.js_grammar.specs.declared.keyword.Keyword.{Keyword}
 use Rattle.js_grammar.specs.declared.keyword.Keyword.TheVariants as word
 use Rattle.js_grammar.specs.declared.form.Form.{Form}
 use Rattle.js_grammar.specs.declared.form.Form.TheVariants.{Plain}
 use Rattle.js_grammar.specs.declared.around.Around.{Around}
-use Rattle.js_grammar.specs.Reading.{◌>>=◌}
-use Rattle.js_grammar.specs.Readers.{row, rest_of, next_sign, next_keyword, place_at, expect, name, semicolon, parted}
-use Rattle.js_grammar.specs.Expressions.{Deeper, a_statement, expression, in_parentheses, function_from}
+use Rattle.js_grammar.specs.Readers.{row, rest_of, next_sign, next_keyword, place_at}
+use Rattle.js_grammar.specs.Expressions.{Deeper, a_statement}
 use Rattle.js_grammar.specs.Statements.{inside, in_switch, statement_or_none, has_part, catch_or_none, ends, begins_line, evaluated, block_from, block, first_value_by, first_value, a_declared, var_statement, alone, alone_if, returned_by, returned_if, return_statement, thrown_by, throw_statement, clause_from, case_by, a_case, default_by, clauses, switch_statement, catch_by, catch_part, finally_by, finally_part, tried, try_statement, declared_if, function_statement}
-use Rattle.js_grammar.specs.Printing.{sign_token, word_token, keyword_token, expression_tokens, optional_tokens, statement_tokens, finally_tokens, first_value_tokens, test_tokens, clauses_tokens, catch_tokens}
-use Rattle.law_tokens.proofs.Keeping.{Keeps, done, behind, and_skips, round, semicolon_behind, Gives, and_then, gives, refuses, so, Keeping}
+use Rattle.js_grammar.specs.Printing.{sign_token, word_token, keyword_token, optional_tokens, statement_tokens, finally_tokens, first_value_tokens, test_tokens, catch_tokens}
+use Rattle.law_tokens.proofs.Keeping.{Keeps, done, behind, and_skips, round, semicolon_behind, Gives, and_then, gives, refuses, Keeping}
 use Rattle.law_tokens.proofs.Steps.{sign_taken, keyword_taken, expect_takes, expect_skips, name_keeps, semicolon_skips}
-use Rattle.law_tokens.proofs.Rows.{Lists, KeepingTurn, row_keeps, parted_keeps}
-use Rattle.law_tokens.proofs.Lists.{statement_list, statements_list, declared_part, declared_list, declarations_list, clause_part, clause_list, clauses_list, clauses_behind}
+use Rattle.law_tokens.proofs.Rows.{KeepingTurn, row_keeps, parted_keeps}
+use Rattle.law_tokens.proofs.Lists.{statements_list, declared_part, declared_list, declarations_list, clause_part, clause_list, clauses_list, clauses_behind}
 use Rattle.law_tokens.proofs.ReadExpressions.{KeepsDeeper, a_statement_keeps, expression_keeps, in_parentheses_keeps, unnamed_keeps}
 
 module _ (end : Place) where
@@ -169,7 +167,7 @@ module _ (end : Place) where
       and_then _ (expect_skips end sign.RightParenthesis called.1 refl) (λ close m.
       and_then _ (g.block (inside around) close) (λ body n.
       gives (Some (record { name = called.0; body = body.0 }), body.1)
-        (behind (keyword_taken ts word.Catch e) (behind (round (behind k (and_skips l m))) n))))))
+      (behind (keyword_taken ts word.Catch e) (behind (round (behind k (and_skips l m))) n))))))
   catch_by_keeps d g around _ ts e = gives (None, ts) (done ts)
 
   catch_keeps : (d : Deeper) (g : KeepsDeeper d) (around : Around) (ts : List Token) → Gives (Keeping (λ c. catch_tokens (catch_or_none c)) ts) (catch_part end d around ts)

@@ -1,5 +1,5 @@
 -- Rows of parts: what each turn keeps, the whole row keeps.
-use Rattle.std.proofs.Common.{◌≡◌, ℕ, zero, suc, ◌<◌, ◌≤◌, List, [], ◌∷◌, ◌++◌, length, Option, Some, None, Ok, Err, Bool, true, false, refl, sym, subst, arith}
+use Rattle.std.proofs.Common.{◌≡◌, ℕ, zero, suc, ◌<◌, ◌≤◌, List, [], ◌∷◌, length, Option, Some, Ok, refl, sym, subst, arith}
 use Rattle.std.specs.Prelude.{Result}
 use Rattle.js_tree.specs.declared.place.Place.{Place}
 use Rattle.js_tree.specs.declared.token.Token.{Token}
@@ -12,7 +12,7 @@ use Rattle.js_grammar.specs.Reading.{Refusal, ◌>>=◌}
 use Rattle.js_grammar.specs.Readers.{Reader, row_of, row, turned, rest_of, next_sign, expect, listed, listed_by, parted}
 use Rattle.js_grammar.specs.Printing.{sign_token}
 use Rattle.law_tokens.specs.BareTokens.{bare_kind}
-use Rattle.law_tokens.proofs.Keeping.{Keeps, done, behind, and_skips, no_longer, Gives, and_then, gives, refuses, so, Keeping}
+use Rattle.law_tokens.proofs.Keeping.{Keeps, done, and_skips, no_longer, Gives, and_then, gives, Keeping}
 use Rattle.law_tokens.proofs.Steps.{sign_skipped, sign_shortens, expect_takes, expect_skips}
 
 -- lists of parts are printed part by part, with what stands between them

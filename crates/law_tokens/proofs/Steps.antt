@@ -1,7 +1,6 @@
 -- What each step of reading takes, and rows of parts.
-use Rattle.std.proofs.Common.{◌≡◌, ℕ, zero, suc, ◌<◌, ◌≤◌, List, [], ◌∷◌, ◌++◌, length, Option, Some, None, Ok, Err, Bool, true, false, refl, sym, ap, ◌∙◌, subst, arith}
-use Rattle.std.specs.Prelude.{Result, nat_eq, find, ◌&&◌, if◌then◌else◌}
-use Rattle.std.specs.Cmp.Lexicographic.{pointwise}
+use Rattle.std.proofs.Common.{◌≡◌, ℕ, ◌<◌, List, [], ◌∷◌, length, Option, Some, None, Bool, true, false, refl, sym, ap, ◌∙◌, subst, arith}
+use Rattle.std.specs.Prelude.{nat_eq, find, ◌&&◌, if◌then◌else◌}
 use Rattle.std.proofs.lemmas.Bool.Decides.{nat_tests}
 use Rattle.js_tree.specs.declared.place.Place.{Place}
 use Rattle.js_tree.specs.declared.token.Token.{Token}
@@ -9,16 +8,12 @@ use Rattle.js_tree.specs.declared.token.TokenKind.{TokenKind}
 use Rattle.js_tree.specs.declared.token.TokenKind.TheVariants as token
 use Rattle.js_tree.specs.declared.sign.Sign.{Sign}
 use Rattle.js_tree.specs.declared.sign.Sign.TheVariants as sign
-use Rattle.js_tree.specs.declared.bound.BoundName.{BoundName}
 use Rattle.js_grammar.specs.declared.keyword.Keyword.{Keyword}
-use Rattle.js_grammar.specs.declared.turn.Turn.{Turn}
-use Rattle.js_grammar.specs.declared.turn.Turn.TheVariants.{More, Last, End}
-use Rattle.js_grammar.specs.Reading.{Refusal, ◌>>=◌}
 use Rattle.js_grammar.specs.Words.{same, keyword_spelling, keywords, keyword_of}
-use Rattle.js_grammar.specs.Readers.{Reader, row_of, row, turned, rest_of, sign_of, next_sign, keyword_in, next_keyword, is_sign, unbound, taken_if, expect, name, name_by, name_if, any_word, word_by, semicolon, semicolon_by, listed, listed_by, parted}
+use Rattle.js_grammar.specs.Readers.{rest_of, sign_of, next_sign, keyword_in, next_keyword, is_sign, unbound, taken_if, expect, name, name_by, name_if, any_word, word_by, semicolon, semicolon_by}
 use Rattle.js_grammar.specs.Printing.{printed, sign_token, word_token, keyword_token}
 use Rattle.law_tokens.specs.BareTokens.{bare_kind}
-use Rattle.law_tokens.proofs.Keeping.{Keeps, done, kept, left_out, behind, and_skips, no_longer, Gives, and_then, gives, refuses, so, Keeping}
+use Rattle.law_tokens.proofs.Keeping.{Keeps, done, kept, left_out, Gives, gives, refuses, so, Keeping}
 
 -- ---- words that are reserved
 

@@ -1,5 +1,5 @@
 -- The laws that bind reading and printing token by token.
-use Rattle.std.specs.Prelude.{◌≡◌, ℕ, List, Option, Some, Ok}
+use Rattle.std.specs.Prelude.{◌≡◌, ℕ, List, Some, Ok, Bool, true}
 use Rattle.std.specs.List.{flat_map, All}
 use Rattle.js_tree.specs.declared.place.Place.{Place}
 use Rattle.js_tree.specs.declared.token.Token.{Token}
@@ -28,3 +28,7 @@ abbrev pub HoldsOfPrinted : (TokenKind → Type 0) → Type 0
 HoldsOfPrinted P =
     (end : Place) (room : ℕ) (ts : List Token) (body : List StatementTree)
     → script_within end room ts ≡ Ok body → All (λ t. P t.kind) ts → All (λ t. P t.kind) (flat_map statement_tokens body)
+
+-- each test is such a property
+abbrev pub TestsHoldOfPrinted : Type 0
+TestsHoldOfPrinted = (test : TokenKind → Bool) → HoldsOfNames (λ k. test k ≡ true) → HoldsOfPrinted (λ k. test k ≡ true)

@@ -1,2 +1,3 @@
 pub mod BareTokens
+pub mod Examples
 pub mod Laws

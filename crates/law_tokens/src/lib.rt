@@ -6,4 +6,4 @@
 
 mod laws;
 
-pub use laws::reading_keeps_tokens;
+pub use laws::{reading_keeps_tokens, tests_hold_of_printed};
