@@ -1,2 +1,4 @@
 pub mod Signs
 pub mod Units
+pub mod Words
+pub mod Numbers

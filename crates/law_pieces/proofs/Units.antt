@@ -48,7 +48,18 @@ digit_shown u h = grind (arith, nat_tests)
 pub digit_no_start : (u : ℕ) → is_digit u ≡ true → is_word_start u ≡ false
 digit_no_start u h = grind (arith, nat_tests)
 
+shown_no_break : (u : ℕ) → is_shown u ≡ true → is_break_unit u ≡ false
+shown_no_break u h = grind (arith, nat_tests)
+
+pub shown_unbroken : (us : List ℕ) → list_all is_shown us ≡ true → has_break us ≡ false
+shown_unbroken [] h = refl
+shown_unbroken (u ∷ us) h = neither (is_break_unit u) (has_break us) (shown_no_break u (both_first _ _ h)) (shown_unbroken us (both_second _ _ h))
+
 -- ---- runs
+
+pub all_weaker : (p q : ℕ → Bool) → ((u : ℕ) → p u ≡ true → q u ≡ true) → (us : List ℕ) → list_all p us ≡ true → list_all q us ≡ true
+all_weaker p q weaker [] h = refl
+all_weaker p q weaker (u ∷ us) h = both (q u) (list_all q us) (weaker u (both_first _ _ h)) (all_weaker p q weaker us (both_second _ _ h))
 
 -- a run ends where a unit that is none of it stands
 pub run_length : (test : ℕ → Bool) (run : List ℕ) (gap : ℕ) (rest : List ℕ) → list_all test run ≡ true → test gap ≡ false → prefix_len test (run ++ gap ∷ rest) ≡ length run
