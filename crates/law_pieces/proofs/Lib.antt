@@ -2,3 +2,4 @@ pub mod Signs
 pub mod Units
 pub mod Words
 pub mod Numbers
+pub mod Texts

@@ -8,10 +8,10 @@ use Rattle.std.proofs.lemmas.List.Sums.{fold-append}
 use Rattle.std.proofs.Math.Seq.{take-append_seam, drop-append_seam}
 use Rattle.std.specs.List.{prefix_len, list_all}
 use Rattle.js_tree.specs.declared.token.TokenKind.TheVariants as token
-use Rattle.js_grammar.specs.Units.{first_passes, begins_with, has_break, is_digit, digit_of, value_of, is_word_start}
+use Rattle.js_grammar.specs.Units.{first_passes, begins_with, is_digit, digit_of, value_of, is_word_start}
 use Rattle.js_grammar.specs.Literals.{is_fraction_mark, literal, decimal_at, is_hexadecimal_literal, number_at}
 use Rattle.js_grammar.specs.Tokens.{number_piece, piece_at}
-use Rattle.law_pieces.proofs.Units.{all_weaker, both, both_first, both_second, is_shown, digit_shown, digit_no_start, shown_no_space, shown_unbroken, run_length}
+use Rattle.law_pieces.proofs.Units.{both, both_first, both_second, digit_shown, digit_no_start, shown_no_space, run_length}
 
 -- ---- what decimal digits are
 
@@ -124,8 +124,10 @@ number_reads dividing n gap rest small ends =
     let d = decimal_is n (fits n small) in
     digits_read dividing (decimal n) n gap rest d (zero_alone (decimal n) n refl d) small ends
 
-pub number_shown : (n : ℕ) → nat_le n 9007199254740991 ≡ true → list_all is_shown (decimal n) ≡ true
-number_shown n small = all_weaker is_digit is_shown digit_shown (decimal n) (decimal_is n (fits n small)).all
+-- ---- the spelling
+
+pub number_digits : (n : ℕ) → nat_le n 9007199254740991 ≡ true → list_all is_digit (decimal n) ≡ true
+number_digits n small = (decimal_is n (fits n small)).all
 
 pub number_begins : (n : ℕ) → nat_le n 9007199254740991 ≡ true → first_passes is_digit (decimal n) ≡ true
 number_begins n small = (decimal_is n (fits n small)).some

@@ -33,8 +33,19 @@ is_shown u = is_between 33 126 u
 pub shown_no_space : (u : ℕ) → is_shown u ≡ true → is_space_unit u ≡ false
 shown_no_space u h = grind (arith, nat_tests)
 
-pub printed_no_break : (u : ℕ) → is_between 32 126 u ≡ true → is_break_unit u ≡ false
+-- a unit of ASCII that is no control
+abbrev pub is_printed : ℕ → Bool
+is_printed u = is_between 32 126 u
+
+pub shown_printed : (u : ℕ) → is_shown u ≡ true → is_printed u ≡ true
+shown_printed u h = grind (arith, nat_tests)
+
+pub printed_no_break : (u : ℕ) → is_printed u ≡ true → is_break_unit u ≡ false
 printed_no_break u h = grind (arith, nat_tests)
+
+pub printed_unbroken : (us : List ℕ) → list_all is_printed us ≡ true → has_break us ≡ false
+printed_unbroken [] h = refl
+printed_unbroken (u ∷ us) h = neither (is_break_unit u) (has_break us) (printed_no_break u (both_first _ _ h)) (printed_unbroken us (both_second _ _ h))
 
 pub start_shown : (u : ℕ) → is_word_start u ≡ true → is_shown u ≡ true
 start_shown u h = grind (arith, nat_tests)
@@ -47,13 +58,6 @@ digit_shown u h = grind (arith, nat_tests)
 
 pub digit_no_start : (u : ℕ) → is_digit u ≡ true → is_word_start u ≡ false
 digit_no_start u h = grind (arith, nat_tests)
-
-shown_no_break : (u : ℕ) → is_shown u ≡ true → is_break_unit u ≡ false
-shown_no_break u h = grind (arith, nat_tests)
-
-pub shown_unbroken : (us : List ℕ) → list_all is_shown us ≡ true → has_break us ≡ false
-shown_unbroken [] h = refl
-shown_unbroken (u ∷ us) h = neither (is_break_unit u) (has_break us) (shown_no_break u (both_first _ _ h)) (shown_unbroken us (both_second _ _ h))
 
 -- ---- runs
 

@@ -6,9 +6,9 @@ use Rattle.std.proofs.Math.Seq.{take-append_seam}
 use Rattle.std.specs.List.{prefix_len, list_all}
 use Rattle.utf16_text.specs.Escape.{escaped_unit, escaped}
 use Rattle.js_tree.specs.declared.token.TokenKind.TheVariants as token
-use Rattle.js_grammar.specs.Units.{first_passes, has_break, is_word_start, is_word_part}
+use Rattle.js_grammar.specs.Units.{first_passes, is_word_start, is_word_part}
 use Rattle.js_grammar.specs.Tokens.{word_piece, piece_at}
-use Rattle.law_pieces.proofs.Units.{both_first, both_second, is_shown, start_shown, part_shown, shown_no_space, shown_unbroken, run_length}
+use Rattle.law_pieces.proofs.Units.{both_first, both_second, start_shown, part_shown, shown_no_space, run_length}
 
 -- ---- the spelling
 
