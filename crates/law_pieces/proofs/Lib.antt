@@ -3,3 +3,4 @@ pub mod Units
 pub mod Words
 pub mod Numbers
 pub mod Texts
+pub mod Spellings

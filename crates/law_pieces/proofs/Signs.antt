@@ -1,13 +1,14 @@
 -- Each sign's spelling is read as that sign.
 use Rattle.std.proofs.Common.{◌≡◌, ◌⊎◌, ℕ, ◌+◌, List, [], ◌∷◌, ◌++◌, length, Option, Some, None, Ok, Bool, true, false, refl}
+use Rattle.std.specs.List.{list_all}
 use Rattle.js_tree.specs.declared.sign.Sign.{Sign}
 use Rattle.js_tree.specs.declared.sign.Sign.TheVariants as sign
 use Rattle.js_tree.specs.declared.token.TokenKind.TheVariants as token
-use Rattle.js_grammar.specs.Units.{first_passes, has_break}
+use Rattle.js_grammar.specs.Units.{first_passes}
 use Rattle.js_grammar.specs.Signs.{sign_spelling}
 use Rattle.js_grammar.specs.Tokens.{piece_at}
 use Rattle.law_pieces.specs.Laws.{needs_value}
-use Rattle.law_pieces.proofs.Units.{is_shown}
+use Rattle.law_pieces.proofs.Units.{is_shown, is_printed}
 
 -- what reading gives at a sign with this unit behind it
 abbrev ReadsSign : ℕ → Bool → Sign → List ℕ → Type 0
@@ -29,6 +30,6 @@ pub sign_begins : (s : Sign) → first_passes is_shown (sign_spelling s) ≡ tru
 sign_begins sign.Dot = refl
 sign_begins _ = refl
 
-pub sign_unbroken : (s : Sign) → has_break (sign_spelling s) ≡ false
-sign_unbroken sign.Dot = refl
-sign_unbroken _ = refl
+pub sign_printed : (s : Sign) → list_all is_printed (sign_spelling s) ≡ true
+sign_printed sign.Dot = refl
+sign_printed _ = refl

@@ -3,6 +3,7 @@ use Rattle.std.proofs.Common.{◌≡◌, ℕ, zero, suc, ◌+◌, ◌*◌, ◌/�
 use Rattle.std.specs.Prelude.{nat_eq, nat_lt, nat_le, if◌then◌else◌}
 use Rattle.std.proofs.lemmas.Bool.Decides.{nat_tests}
 use Rattle.std.proofs.lemmas.List.Concat.{flat_map-cons}
+use Rattle.std.proofs.lemmas.List.Folds.{list_all-append}
 use Rattle.std.specs.List.{prefix_len, list_all}
 use Rattle.utf16_text.specs.Escape.{hexadecimal_digit_of, numbered_unit, escaped_unit, escaped}
 use Rattle.js_tree.specs.declared.refusal.ReadKind.{ReadKind}
@@ -97,3 +98,58 @@ units_read (suc n) (u ∷ us) rest h k =
     (unit_reads n u (others ++ 34 ∷ rest) (both_first _ _ h)
     ∙ ap (λ r. r >>= in_front (u ∷ []) (length one)) (units_read n us rest (both_second _ _ h) short)
     ∙ both_written u us one others)
+
+-- ---- the whole text
+
+piece_of_text : (dividing : Bool) (us x : List ℕ) (n : ℕ) → text_at 34 us ≡ Ok (x, n) → piece_at dividing (34 ∷ us) ≡ Ok (Some (token.Text x), n + 1)
+unfolding piece_at
+piece_of_text dividing us x n is = rw is refl
+
+pub text_reads : (dividing : Bool) (x : List ℕ) (gap : ℕ) (rest : List ℕ) → list_all is_unit x ≡ true
+    → piece_at dividing ((34 ∷ (escaped true x ++ 34 ∷ [])) ++ gap ∷ rest) ≡ Ok (Some (token.Text x), length (34 ∷ (escaped true x ++ 34 ∷ [])))
+text_reads dividing x gap rest h =
+    let written = escaped true x in
+    let parted : (written ++ 34 ∷ []) ++ gap ∷ rest ≡ written ++ 34 ∷ gap ∷ rest = append_assoc written (34 ∷ []) (gap ∷ rest) in
+    let enough : length x < suc (length (written ++ 34 ∷ gap ∷ rest)) = omega (arith, escape_length x, length-append written (34 ∷ gap ∷ rest)) in
+    let count : length written + 1 + 1 ≡ suc (length (written ++ 34 ∷ [])) = omega (arith, length-append written (34 ∷ [])) in
+    rw parted
+    (piece_of_text dividing (written ++ 34 ∷ gap ∷ rest) x (length written + 1) (units_read (suc (length (written ++ 34 ∷ gap ∷ rest))) x (gap ∷ rest) h enough)
+    ∙ ap (λ (n : ℕ). Ok (Some (token.Text x), n)) count)
+
+-- ---- the spelling
+
+digit_printed : (n : ℕ) → n < 16 → is_printed (hexadecimal_digit_of n) ≡ true
+digit_printed n h = grind (arith, nat_tests)
+
+number_printed : (u : ℕ) → u < 65536 → list_all is_printed (numbered_unit u) ≡ true
+number_printed u h =
+    let first : is_printed (hexadecimal_digit_of (u / 4096)) ≡ true = digit_printed (u / 4096) (omega arith) in
+    let second : is_printed (hexadecimal_digit_of (u / 256 % 16)) ≡ true = digit_printed (u / 256 % 16) (omega arith) in
+    let third : is_printed (hexadecimal_digit_of (u / 16 % 16)) ≡ true = digit_printed (u / 16 % 16) (omega arith) in
+    let last : is_printed (hexadecimal_digit_of (u % 16)) ≡ true = digit_printed (u % 16) (omega arith) in
+    rw (first, second, third, last) refl
+
+unit_printed : (u : ℕ) → is_unit u ≡ true → list_all is_printed (escaped_unit true u) ≡ true
+unit_printed u h = by_quote (nat_eq u 34)
+  where
+    by_print : (c : Bool) → is_printed u ≡ c → list_all is_printed (if c then u ∷ [] else numbered_unit u) ≡ true
+    by_print true e = rw e refl
+    by_print false e = number_printed u (below u h)
+
+    by_backslash : (b : Bool) → list_all is_printed (if b then 92 ∷ 92 ∷ [] else if is_printed u then u ∷ [] else numbered_unit u) ≡ true
+    by_backslash true = refl
+    by_backslash false = by_print (is_printed u) refl
+
+    by_quote : (a : Bool) → list_all is_printed (if a then 92 ∷ 34 ∷ [] else if nat_eq u 92 then 92 ∷ 92 ∷ [] else if is_printed u then u ∷ [] else numbered_unit u) ≡ true
+    by_quote true = refl
+    by_quote false = by_backslash (nat_eq u 92)
+
+units_printed : (x : List ℕ) → list_all is_unit x ≡ true → list_all is_printed (escaped true x) ≡ true
+units_printed [] h = refl
+units_printed (u ∷ us) h =
+    let one : list_all is_printed (escaped_unit true u) ≡ true = unit_printed u (both_first _ _ h) in
+    let others : list_all is_printed (escaped true us) ≡ true = units_printed us (both_second _ _ h) in
+    rw (flat_map-cons (escaped_unit true) u us, list_all-append is_printed (escaped_unit true u) (escaped true us), one, others) refl
+
+pub text_printed : (x : List ℕ) → list_all is_unit x ≡ true → list_all is_printed (34 ∷ (escaped true x ++ 34 ∷ [])) ≡ true
+text_printed x h = let all : list_all is_printed (escaped true x) ≡ true = units_printed x h in rw (list_all-append is_printed (escaped true x) (34 ∷ []), all) refl
