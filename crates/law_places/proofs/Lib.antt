@@ -1,2 +1,5 @@
+pub mod AsideExpressions
+pub mod AsideOperators
 pub mod Asides
+pub mod BareParts
 pub mod FirstLine
