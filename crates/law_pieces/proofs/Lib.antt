@@ -4,3 +4,4 @@ pub mod Words
 pub mod Numbers
 pub mod Texts
 pub mod Spellings
+pub mod Read
