@@ -5,3 +5,4 @@ pub mod Numbers
 pub mod Texts
 pub mod Spellings
 pub mod Read
+pub mod Lexed

@@ -58,21 +58,23 @@ digit_small u h = grind (arith, nat_tests)
 abbrev AreHexadecimal : List ℕ → Type 0
 AreHexadecimal us = list_all is_hexadecimal us ≡ true
 
+first_small : (u : ℕ) (us : List ℕ) → AreHexadecimal (u ∷ us) → digit_of u < 16
+first_small u us h = digit_small u (both_first _ _ h)
+
+others_too : (u : ℕ) (us : List ℕ) → AreHexadecimal (u ∷ us) → AreHexadecimal us
+others_too u us h = both_second (is_hexadecimal u) (list_all is_hexadecimal us) h
+
 value_small : (us : List ℕ) → length us ≤ 4 → AreHexadecimal us → value_of 16 us < 65536
 value_small [] short h = omega arith
-value_small (a ∷ []) short h = omega (arith, digit_small a (both_first _ _ h))
-value_small (a ∷ b ∷ []) short h =
-    let rest : AreHexadecimal (b ∷ []) = both_second _ _ h in
-    omega (arith, digit_small a (both_first _ _ h), digit_small b (both_first _ _ rest))
+value_small (a ∷ []) short h = omega (arith, first_small a [] h)
+value_small (a ∷ b ∷ []) short h = omega (arith, first_small a (b ∷ []) h, first_small b [] (others_too a (b ∷ []) h))
 value_small (a ∷ b ∷ c ∷ []) short h =
-    let rest : AreHexadecimal (b ∷ c ∷ []) = both_second _ _ h in
-    let last : AreHexadecimal (c ∷ []) = both_second _ _ rest in
-    omega (arith, digit_small a (both_first _ _ h), digit_small b (both_first _ _ rest), digit_small c (both_first _ _ last))
+    let behind = others_too a (b ∷ c ∷ []) h in
+    omega (arith, first_small a (b ∷ c ∷ []) h, first_small b (c ∷ []) behind, first_small c [] (others_too b (c ∷ []) behind))
 value_small (a ∷ b ∷ c ∷ d ∷ []) short h =
-    let rest : AreHexadecimal (b ∷ c ∷ d ∷ []) = both_second _ _ h in
-    let more : AreHexadecimal (c ∷ d ∷ []) = both_second _ _ rest in
-    let last : AreHexadecimal (d ∷ []) = both_second _ _ more in
-    omega (arith, digit_small a (both_first _ _ h), digit_small b (both_first _ _ rest), digit_small c (both_first _ _ more), digit_small d (both_first _ _ last))
+    let behind = others_too a (b ∷ c ∷ d ∷ []) h in
+    let last = others_too b (c ∷ d ∷ []) behind in
+    omega (arith, first_small a (b ∷ c ∷ d ∷ []) h, first_small b (c ∷ d ∷ []) behind, first_small c (d ∷ []) last, first_small d [] (others_too c (d ∷ []) last))
 value_small (a ∷ b ∷ c ∷ d ∷ e ∷ us) short h = absurd (omega arith)
 
 -- a run that is as long as the list is the list

@@ -6,4 +6,4 @@
 
 mod laws;
 
-pub use laws::spellings_are_read;
+pub use laws::{spellings_are_read, tokens_are_spelt};
