@@ -128,6 +128,14 @@ no_space_by true dividing u us rest k m is e = not_both k m (prefix_len is_space
 no_space_by false dividing u us rest k m is e = rw is refl
 
 -- what is read as a token is not empty, and begins with no white space
-token_first : (dividing : Bool) (us rest more : List ℕ) (k : TokenKind) → piece_at dividing (us ++ 32 ∷ rest) ≡ Ok (Some k, length us) → NoSpaceFirst (us ++ more)
+pub token_first : (dividing : Bool) (us rest more : List ℕ) (k : TokenKind) → piece_at dividing (us ++ 32 ∷ rest) ≡ Ok (Some k, length us) → NoSpaceFirst (us ++ more)
 token_first dividing [] rest more k e = not_both k 0 (prefix_len is_space_unit rest + 1) e (space_first dividing 32 rest refl)
 token_first dividing (u ∷ us) rest more k e = no_space_by (is_space_unit u) dividing u (us ++ 32 ∷ rest) (us ++ more) k (length (u ∷ us)) refl e
+
+-- a spelling, and white space behind it
+pub spelt_lexed : {k : TokenKind} {gap : ℕ} {rest : List ℕ} {after_line : Bool} {before wanted : List Token} (us : List ℕ)
+    → is_space_unit gap ≡ true → piece_at (divides before) (us ++ gap ∷ rest) ≡ Ok (Some k, length us)
+    → ((place : Place) → Lexed false (with_kind k place after_line ∷ before) (gap ∷ rest) wanted)
+    → Lexed after_line before (us ++ gap ∷ rest) (with_kind k nowhere after_line ∷ wanted)
+spelt_lexed {k = k} {gap = gap} {rest = rest} {before = before} [] space e h = not_both k 0 (prefix_len is_space_unit rest + 1) e (space_first (divides before) gap rest space)
+spelt_lexed {k = k} {gap = gap} {rest = rest} {after_line = after_line} {before = before} {wanted = wanted} (u ∷ us) space e h = record { lexes = λ n place fits. enough_token n place after_line before u us (gap ∷ rest) k wanted e fits (h place) }
