@@ -6,4 +6,4 @@
 
 mod laws;
 
-pub use laws::first_line_is_not_seen;
+pub use laws::{first_line_is_not_seen, places_are_put_aside};
