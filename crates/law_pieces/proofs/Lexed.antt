@@ -1,24 +1,22 @@
 -- Each token that is read can be spelt.
-use Rattle.std.proofs.Common.{◌≡◌, ℕ, zero, suc, ◌+◌, List, [], ◌∷◌, ◌++◌, length, take, drop, Option, Some, None, Result, Ok, Err, Bool, true, false, ◌&&◌, ◌||◌, refl, sym, ap, subst, All, arith}
-use Rattle.std.specs.Prelude.{nat_eq, if◌then◌else◌}
+use Rattle.std.proofs.Common.{◌≡◌, ℕ, zero, suc, ◌+◌, List, [], ◌∷◌, ◌++◌, length, take, drop, Option, Some, None, Result, Ok, Err, Bool, true, false, ◌&&◌, refl, subst, arith}
+use Rattle.std.specs.Prelude.{nat_eq}
 use Rattle.std.specs.List.{prefix_len, list_all}
 use Rattle.std.proofs.lemmas.List.Sums.{AllPass-from_list_all, list_all-from_AllPass}
 use Rattle.utf16_text.specs.Letters.{is_space_unit}
 use Rattle.js_tree.specs.declared.place.Place.{Place}
 use Rattle.js_tree.specs.declared.token.Token.{Token}
 use Rattle.js_tree.specs.declared.token.TokenKind.{TokenKind}
-use Rattle.js_tree.specs.declared.token.TokenKind.TheVariants as token
 use Rattle.js_tree.specs.declared.sign.Sign.{Sign}
 use Rattle.js_tree.specs.declared.refusal.ReadKind.{ReadKind}
-use Rattle.js_grammar.specs.Reading.{Refusal, ◌>>=◌}
 use Rattle.js_grammar.specs.Units.{first_passes, begins_with, is_digit, is_word_start, is_word_part, place_after}
 use Rattle.js_grammar.specs.Signs.{sign_at}
-use Rattle.js_grammar.specs.Literals.{number_at, text_from, text_at}
+use Rattle.js_grammar.specs.Literals.{number_at, text_at}
 use Rattle.js_grammar.specs.Tokens.{Piece, divides, comment_length, comment_piece, sign_piece, slash_piece, word_piece, number_piece, text_piece, is_quote, piece_at, at_place, piece_tokens, line_ended, tokens_from, tokens_of}
 use Rattle.law_pieces.specs.Spelt.{is_unit, is_spelt}
 use Rattle.law_pieces.specs.Laws.{TokensAreSpelt}
-use Rattle.law_pieces.proofs.Units.{both, both_first, both_second, run_passes}
-use Rattle.law_pieces.proofs.Read.{Gives, step, chosen, IsLiteral, number_gives, AreUnits, text_gives, drop_passes}
+use Rattle.law_pieces.proofs.Units.{both, both_second, run_passes}
+use Rattle.law_pieces.proofs.Read.{Gives, step, chosen, number_gives, text_gives, drop_passes}
 
 -- ---- pieces
 

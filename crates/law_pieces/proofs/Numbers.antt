@@ -1,5 +1,5 @@
 -- Each number's spelling is read as that number.
-use Rattle.std.proofs.Common.{◌≡◌, ◌⊎◌, inl, inr, ⊎_elim, ℕ, zero, suc, pos, ◌+◌, ◌*◌, ◌/◌, ◌%◌, ◌^◌, ◌<◌, ◌≤◌, List, [], ◌∷◌, ◌++◌, length, take, drop, fold, Some, Ok, Bool, true, false, ◌&&◌, ◌||◌, decimal, refl, ap, arith}
+use Rattle.std.proofs.Common.{◌≡◌, ℕ, zero, suc, pos, ◌+◌, ◌*◌, ◌/◌, ◌%◌, ◌^◌, ◌<◌, ◌≤◌, List, [], ◌∷◌, ◌++◌, length, take, drop, Some, Ok, Bool, true, false, ◌&&◌, ◌||◌, decimal, refl, arith}
 use Rattle.std.specs.Prelude.{nat_eq, nat_lt, nat_le}
 use Rattle.std.proofs.lemmas.Bool.Decides.{nat_tests}
 use Rattle.std.proofs.lemmas.Fmt.{decimal_digit, decimal_by_steps}
@@ -9,7 +9,7 @@ use Rattle.std.proofs.Math.Seq.{take-append_seam, drop-append_seam}
 use Rattle.std.specs.List.{prefix_len, list_all}
 use Rattle.js_tree.specs.declared.token.TokenKind.TheVariants as token
 use Rattle.js_grammar.specs.Units.{first_passes, begins_with, is_digit, digit_of, value_of, is_word_start}
-use Rattle.js_grammar.specs.Literals.{is_fraction_mark, literal, decimal_at, is_hexadecimal_literal, number_at}
+use Rattle.js_grammar.specs.Literals.{is_fraction_mark, decimal_at, is_hexadecimal_literal}
 use Rattle.js_grammar.specs.Tokens.{number_piece, piece_at}
 use Rattle.law_pieces.proofs.Units.{both, both_first, both_second, digit_shown, digit_no_start, shown_no_space, run_length}
 
@@ -112,8 +112,8 @@ digits_read dividing [] n gap rest d alone small ends = let none : false ≡ tru
 digits_read dividing (u ∷ us) n gap rest d alone small ends =
     let others : list_all is_digit us ≡ true = both_second _ _ d.all in
     let whole : decimal_at (u ∷ us ++ gap ∷ rest) ≡ Ok (pos n, length (u ∷ us)) =
-        decimal_of_run (u ∷ us ++ gap ∷ rest) (u ∷ us) (gap ∷ rest) n (length (u ∷ us)) (run_length is_digit (u ∷ us) gap rest d.all ends.no_digit)
-        (take-append_seam (u ∷ us) (gap ∷ rest)) (drop-append_seam (u ∷ us) (gap ∷ rest)) alone ends.no_fraction d.value ends.no_letter (within_limit n small) in
+    decimal_of_run (u ∷ us ++ gap ∷ rest) (u ∷ us) (gap ∷ rest) n (length (u ∷ us)) (run_length is_digit (u ∷ us) gap rest d.all ends.no_digit)
+    (take-append_seam (u ∷ us) (gap ∷ rest)) (drop-append_seam (u ∷ us) (gap ∷ rest)) alone ends.no_fraction d.value ends.no_letter (within_limit n small) in
     rw (at_digit dividing u (us ++ gap ∷ rest) d.some) (piece_of_number (u ∷ us ++ gap ∷ rest) n (length (u ∷ us)) (not_hexadecimal u us gap rest others ends) whole)
 
 fits : (n : ℕ) → nat_le n 9007199254740991 ≡ true → n < 2 ^ 64

@@ -1,8 +1,6 @@
 -- Each token's spelling is read as that token, and what a spelling is made of.
-use Rattle.std.proofs.Common.{◌≡◌, ◌⊎◌, inl, inr, ⊎_elim, ℕ, ℤ, pos, negsuc, ◌<◌, List, [], ◌∷◌, ◌++◌, length, Some, Ok, Bool, true, false, decimal, refl, sym, arith}
+use Rattle.std.proofs.Common.{◌≡◌, ◌⊎◌, ⊎_elim, ℕ, pos, negsuc, ◌<◌, List, [], ◌∷◌, ◌++◌, length, Some, Ok, Bool, true, false, decimal, refl, arith}
 use Rattle.std.specs.List.{list_all}
-use Rattle.std.specs.Fmt.{signed_decimal}
-use Rattle.utf16_text.specs.Escape.{escaped}
 use Rattle.utf16_text.specs.Letters.{is_space_unit}
 use Rattle.js_tree.specs.declared.token.TokenKind.{TokenKind}
 use Rattle.js_tree.specs.declared.token.TokenKind.TheVariants as token
@@ -10,8 +8,8 @@ use Rattle.js_grammar.specs.Units.{first_passes, has_break, is_digit, is_word_st
 use Rattle.js_grammar.specs.Signs.{sign_spelling}
 use Rattle.js_grammar.specs.Spelling.{spelling}
 use Rattle.js_grammar.specs.Tokens.{piece_at}
-use Rattle.law_pieces.specs.Spelt.{is_unit, is_literal, is_spelt}
-use Rattle.law_pieces.specs.Laws.{needs_value, SpellingsAreRead}
+use Rattle.law_pieces.specs.Spelt.{is_spelt}
+use Rattle.law_pieces.specs.Laws.{SpellingsAreRead}
 use Rattle.law_pieces.proofs.Units.{both_first, both_second, is_shown, is_printed, shown_printed, start_shown, part_shown, digit_shown, shown_no_space, printed_unbroken, all_weaker}
 use Rattle.law_pieces.proofs.Words.{word_spelling, word_reads}
 use Rattle.law_pieces.proofs.Numbers.{EndsNumber, number_reads, number_digits, number_begins}

@@ -1,16 +1,15 @@
 -- Each text's spelling is read as that text.
-use Rattle.std.proofs.Common.{◌≡◌, ℕ, zero, suc, ◌+◌, ◌*◌, ◌/◌, ◌%◌, ◌<◌, ◌≤◌, List, [], ◌∷◌, ◌++◌, length, take, drop, Some, Ok, Result, Bool, true, false, ◌&&◌, refl, ap, ◌∙◌, sym, append_assoc, length-append, arith}
-use Rattle.std.specs.Prelude.{nat_eq, nat_lt, nat_le, if◌then◌else◌}
+use Rattle.std.proofs.Common.{◌≡◌, ℕ, zero, suc, ◌+◌, ◌*◌, ◌/◌, ◌%◌, ◌<◌, ◌≤◌, List, [], ◌∷◌, ◌++◌, length, Some, Ok, Bool, true, false, refl, ap, ◌∙◌, append_assoc, length-append, arith}
+use Rattle.std.specs.Prelude.{nat_eq, if◌then◌else◌}
 use Rattle.std.proofs.lemmas.Bool.Decides.{nat_tests}
 use Rattle.std.proofs.lemmas.List.Concat.{flat_map-cons}
 use Rattle.std.proofs.lemmas.List.Folds.{list_all-append}
-use Rattle.std.specs.List.{prefix_len, list_all}
+use Rattle.std.specs.List.{list_all}
 use Rattle.utf16_text.specs.Escape.{hexadecimal_digit_of, numbered_unit, escaped_unit, escaped}
-use Rattle.js_tree.specs.declared.refusal.ReadKind.{ReadKind}
 use Rattle.js_tree.specs.declared.token.TokenKind.TheVariants as token
 use Rattle.js_grammar.specs.Reading.{◌>>=◌}
-use Rattle.js_grammar.specs.Units.{is_hexadecimal, digit_of, value_of}
-use Rattle.js_grammar.specs.Literals.{in_front, numbered_at, escape_at, character_at, text_from, text_at}
+use Rattle.js_grammar.specs.Units.{is_hexadecimal, digit_of}
+use Rattle.js_grammar.specs.Literals.{in_front, numbered_at, text_from, text_at}
 use Rattle.js_grammar.specs.Tokens.{piece_at}
 use Rattle.law_pieces.specs.Spelt.{is_unit}
 use Rattle.law_pieces.proofs.Units.{both_first, both_second, is_printed, printed_no_break}

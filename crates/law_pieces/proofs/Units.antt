@@ -1,10 +1,9 @@
 -- Classes of units, and what runs of units of a class are.
-use Rattle.std.proofs.Common.{◌≡◌, ◌⊎◌, ℕ, zero, suc, ◌+◌, ◌<◌, ◌≤◌, List, [], ◌∷◌, ◌++◌, length, take, drop, fold, Bool, true, false, cond, not, ◌&&◌, ◌||◌, refl, sym, ap, ◌∙◌, arith}
+use Rattle.std.proofs.Common.{◌≡◌, ℕ, suc, ◌+◌, List, [], ◌∷◌, ◌++◌, length, take, Bool, true, false, cond, ◌&&◌, ◌||◌, refl, arith}
 use Rattle.std.proofs.lemmas.Bool.Decides.{nat_tests}
-use Rattle.std.specs.Prelude.{nat_eq, nat_le, nat_lt, if◌then◌else◌}
-use Rattle.std.specs.List.{prefix_len, list_all, list_any, flat_map}
-use Rattle.utf16_text.specs.Letters.{is_between, is_blank_unit, is_break_unit, is_space_unit}
-use Rattle.js_grammar.specs.Units.{is_digit, is_hexadecimal, is_word_start, is_word_part, has_break}
+use Rattle.std.specs.List.{prefix_len, list_all}
+use Rattle.utf16_text.specs.Letters.{is_between, is_break_unit, is_space_unit}
+use Rattle.js_grammar.specs.Units.{is_digit, is_word_start, is_word_part, has_break}
 
 -- ---- tests
 

@@ -8,7 +8,7 @@ use Rattle.utf16_text.specs.Escape.{escaped_unit, escaped}
 use Rattle.js_tree.specs.declared.token.TokenKind.TheVariants as token
 use Rattle.js_grammar.specs.Units.{first_passes, is_word_start, is_word_part}
 use Rattle.js_grammar.specs.Tokens.{word_piece, piece_at}
-use Rattle.law_pieces.proofs.Units.{both_first, both_second, start_shown, part_shown, shown_no_space, run_length}
+use Rattle.law_pieces.proofs.Units.{both_first, both_second, start_shown, shown_no_space, run_length}
 
 -- ---- the spelling
 
