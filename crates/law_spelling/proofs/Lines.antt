@@ -1,14 +1,14 @@
 -- A line of printed tokens is lexed as these tokens.
-use Rattle.std.proofs.Common.{◌≡◌, ◌⊎◌, inl, inr, ℕ, List, [], ◌∷◌, ◌++◌, length, Ok, Some, Bool, true, false, refl, subst, sym, ap, append_assoc}
+use Rattle.std.proofs.Common.{◌≡◌, ◌⊎◌, inl, inr, ℕ, List, [], ◌∷◌, ◌++◌, Bool, true, false, refl, subst, sym, ap, append_assoc}
 use Rattle.std.specs.List.{All}
 use Rattle.std.proofs.lemmas.List.Elements.{All-head, All-tail}
 use Rattle.utf16_text.specs.Letters.{is_space_unit}
 use Rattle.js_tree.specs.declared.place.Place.{Place}
 use Rattle.js_tree.specs.declared.token.Token.{Token}
 use Rattle.js_tree.specs.declared.token.TokenKind.{TokenKind}
-use Rattle.js_grammar.specs.Printing.{nowhere, printed}
+use Rattle.js_grammar.specs.Printing.{nowhere}
 use Rattle.js_grammar.specs.Spelling.{spelling, line}
-use Rattle.js_grammar.specs.Tokens.{piece_at, divides, dot_first}
+use Rattle.js_grammar.specs.Tokens.{divides, dot_first}
 use Rattle.law_pieces.specs.Spelt.{is_spelt}
 use Rattle.law_pieces.specs.Laws.{needs_value, SpellingsAreRead}
 use Rattle.law_spelling.specs.Lined.{behind_line}

@@ -1,20 +1,17 @@
 -- One piece of a text after another, where the pieces are spellings and what stands between them.
-use Rattle.std.proofs.Common.{◌≡◌, ℕ, zero, suc, ◌+◌, ◌≤◌, List, [], ◌∷◌, ◌++◌, length, take, drop, Option, Some, None, Result, Ok, Err, Bool, true, false, ◌||◌, refl, sym, ap, ◌∙◌, length-append, arith}
+use Rattle.std.proofs.Common.{◌≡◌, ℕ, zero, suc, ◌+◌, ◌≤◌, List, [], ◌∷◌, ◌++◌, length, take, drop, Option, Some, None, Result, Ok, Bool, true, false, ◌||◌, refl, sym, ap, ◌∙◌, length-append, arith}
 use Rattle.std.specs.List.{prefix_len}
 use Rattle.std.proofs.Math.Seq.{take-append_seam, drop-append_seam}
-use Rattle.utf16_text.specs.Letters.{is_break_unit, is_space_unit}
+use Rattle.utf16_text.specs.Letters.{is_space_unit}
 use Rattle.js_tree.specs.declared.place.Place.{Place}
 use Rattle.js_tree.specs.declared.token.Token.{Token}
 use Rattle.js_tree.specs.declared.token.TokenKind.{TokenKind}
 use Rattle.js_tree.specs.declared.refusal.ReadKind.{ReadKind}
 use Rattle.js_grammar.specs.Reading.{◌>>=◌}
-use Rattle.js_grammar.specs.Units.{first_passes, has_break, place_after}
+use Rattle.js_grammar.specs.Units.{has_break, place_after}
 use Rattle.js_grammar.specs.Printing.{nowhere}
-use Rattle.js_grammar.specs.Spelling.{spelling}
 use Rattle.js_grammar.specs.Tokens.{Piece, piece_at, piece_tokens, line_ended, divides, tokens_from}
 use Rattle.law_places.specs.Placeless.{placeless}
-use Rattle.law_pieces.specs.Spelt.{is_spelt}
-use Rattle.law_pieces.specs.Laws.{needs_value, SpellingsAreRead}
 
 -- the tokens from a place on, in at most n pieces, are these, places aside
 pub record Lexes (n : ℕ) (place : Place) (after_line : Bool) (before : List Token) (us : List ℕ) (wanted : List Token) : Type 0 where
@@ -22,7 +19,7 @@ pub record Lexes (n : ℕ) (place : Place) (after_line : Bool) (before : List To
   pub lexed : tokens_from n place after_line before us ≡ Ok tokens
   pub same : placeless tokens ≡ wanted
 
--- and so from each place on, and in so many pieces as there are units
+-- and so from each place on, with a piece at least for each unit
 pub record Lexed (after_line : Bool) (before : List Token) (us : List ℕ) (wanted : List Token) : Type 0 where
   pub lexes : (n : ℕ) (place : Place) → length us ≤ n → Lexes n place after_line before us wanted
 
@@ -61,9 +58,10 @@ with_token : (n : ℕ) (place : Place) (after_line : Bool) (before : List Token)
     → Lexes n (place_after place (u ∷ us)) false (with_kind k place after_line ∷ before) rest wanted
     → Lexes (suc n) place after_line before (u ∷ us ++ rest) (with_kind k nowhere after_line ∷ wanted)
 with_token n place after_line before u us rest k wanted e h = record {
-    tokens = with_kind k place after_line ∷ h.tokens;
-    lexed = rw (piece_before n place after_line before u us rest (Some k) e, h.lexed) refl;
-    same = ap (λ ts. with_kind k nowhere after_line ∷ ts) h.same }
+  tokens = with_kind k place after_line ∷ h.tokens;
+  lexed = rw (piece_before n place after_line before u us rest (Some k) e, h.lexed) refl;
+  same = ap (λ ts. with_kind k nowhere after_line ∷ ts) h.same;
+}
 
 -- a piece without one
 without_token : (n : ℕ) (place : Place) (after_line : Bool) (before : List Token) (u : ℕ) (us rest : List ℕ) (wanted : List Token)
@@ -71,11 +69,12 @@ without_token : (n : ℕ) (place : Place) (after_line : Bool) (before : List Tok
     → Lexes n (place_after place (u ∷ us)) (after_line || has_break (u ∷ us)) before rest wanted
     → Lexes (suc n) place after_line before (u ∷ us ++ rest) wanted
 without_token n place after_line before u us rest wanted e h = record {
-    tokens = h.tokens;
-    lexed = rw (piece_before n place after_line before u us rest None e, h.lexed) refl;
-    same = h.same }
+  tokens = h.tokens;
+  lexed = rw (piece_before n place after_line before u us rest None e, h.lexed) refl;
+  same = h.same;
+}
 
--- with pieces enough
+-- the same two, with a piece at least for each unit
 enough_token : (n : ℕ) (place : Place) (after_line : Bool) (before : List Token) (u : ℕ) (us rest : List ℕ) (k : TokenKind) (wanted : List Token)
     → piece_at (divides before) (u ∷ us ++ rest) ≡ Ok (Some k, length (u ∷ us))
     → length (u ∷ us ++ rest) ≤ n

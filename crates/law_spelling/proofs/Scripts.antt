@@ -1,19 +1,17 @@
 -- The bytes of a printed script are lexed as its printed tokens.
-use Rattle.std.proofs.Common.{◌≡◌, ◌≤◌, ℕ, suc, List, [], ◌∷◌, ◌++◌, length, Ok, Bool, true, false, refl, subst, arith}
+use Rattle.std.proofs.Common.{ℕ, suc, List, [], ◌∷◌, ◌++◌, length, Bool, true, false, refl, subst, arith}
 use Rattle.std.specs.List.{flat_map, All}
 use Rattle.std.proofs.lemmas.List.Elements.{All-nil, All-cons, All-head, All-tail}
-use Rattle.js_tree.specs.declared.place.Place.{Place}
 use Rattle.js_tree.specs.declared.token.Token.{Token}
 use Rattle.js_tree.specs.Tree.{StatementTree, statements_of}
 use Rattle.js_grammar.specs.declared.around.Around.{Around}
 use Rattle.js_grammar.specs.Statements.{at_top}
 use Rattle.js_grammar.specs.Printing.{nowhere, statement_tokens}
 use Rattle.js_grammar.specs.Spelling.{line, printed_bytes}
-use Rattle.js_grammar.specs.Tokens.{divides, dot_first, tokens_of}
-use Rattle.law_places.specs.Placeless.{placeless}
+use Rattle.js_grammar.specs.Tokens.{divides, dot_first}
 use Rattle.law_readable.specs.Readable.{IsStatement, AreStatements}
 use Rattle.law_pieces.specs.Laws.{SpellingsAreRead}
-use Rattle.law_spelling.specs.Lined.{behind_line, line_tokens, lined}
+use Rattle.law_spelling.specs.Lined.{line_tokens, lined}
 use Rattle.law_spelling.specs.Laws.{PrintedScriptsAreLexed}
 use Rattle.law_spelling.proofs.StandingTrees.{statement_stands}
 use Rattle.law_spelling.proofs.Rows.{statement_row}

@@ -7,10 +7,9 @@ use Rattle.js_tree.specs.declared.bound.BoundName.{BoundName}
 use Rattle.js_tree.specs.declared.operators.UpdateForm.TheVariants.{Prefix, Postfix}
 use Rattle.js_tree.specs.Tree.{ExpressionTree, Number, Characters, True, False, Null, This, Name, Array, Object, Function, Numbered, Suffixed, New, Update, Unary, Chain, Conditional, Assign, Comma, OptionalExpression, absent, present, Expressions, no_expression, an_expression, Items, no_item, an_item, Properties, no_property, a_property, SuffixTree, a_member, an_index, a_call, Suffixes, no_suffix, a_suffix, Operands, no_operand, an_operand, FunctionTree, a_function, StatementTree, Block, Empty, Evaluate, Debugger, Var, If, DoWhile, While, For, ForIn, Continue, Break, Return, Throw, Switch, Try, Declare, DeclareNumbered, OptionalStatement, omitted, given, Statements, no_statement, a_statement, Declarations, no_declared, a_declared, Branches, no_branch, a_branch, StartTree, no_start, start_var, start_value, TargetTree, target_value, target_declared, Clauses, no_clause, a_clause, CatchTree, no_catch, a_catch}
 use Rattle.js_grammar.specs.declared.around.Around.{Around}
-use Rattle.js_grammar.specs.declared.keyword.Keyword.TheVariants as word
 use Rattle.js_grammar.specs.Expressions.{in_function}
 use Rattle.js_grammar.specs.Statements.{inside, in_loop, in_switch}
-use Rattle.js_grammar.specs.Printing.{printed, sign_token, word_token, keyword_token, comma_if, else_if, more_names, more_expressions, more_items, more_properties, more_declared, more_branches, in_round, in_square, in_braces, parameters_tokens, own_name_tokens, unary_token, update_token, assign_token, binary_token, expression_tokens, optional_tokens, expressions_tokens, items_tokens, item_tokens, properties_tokens, suffix_tokens, suffixes_tokens, operands_tokens, function_tokens, statement_tokens, statements_tokens, otherwise_tokens, finally_tokens, first_value_tokens, declarations_tokens, branches_tokens, start_tokens, target_tokens, test_tokens, clauses_tokens, catch_tokens}
+use Rattle.js_grammar.specs.Printing.{else_if, more_names, more_expressions, more_items, more_properties, more_declared, more_branches, parameters_tokens, own_name_tokens, expression_tokens, optional_tokens, expressions_tokens, items_tokens, properties_tokens, suffix_tokens, suffixes_tokens, operands_tokens, function_tokens, statement_tokens, statements_tokens, otherwise_tokens, finally_tokens, first_value_tokens, declarations_tokens, branches_tokens, start_tokens, target_tokens, clauses_tokens, catch_tokens}
 use Rattle.law_readable.specs.Readable.{IsExpression, IsOptional, AreExpressions, AreItems, AreProperties, IsSuffix, AreSuffixes, AreOperands, IsFunction, IsStatement, AreStatements, IsOtherwise, IsFinally, AreDeclared, AreBranches, IsStart, IsTarget, AreClauses, IsCatch, is_given}
 use Rattle.law_spelling.proofs.Standing.{StandAnywhere, StandBehindValue, none_stand, token_stands, text_stands, sign_stands, word_stands, rows_stand, value_stands, round_stand, square_stand, braces_stand, semicolon_stands, comma_stands, comma_alone}
 use Rattle.law_spelling.proofs.Values.{expression_value, unary_stands, update_stands, binary_stands, assign_stands}
@@ -32,6 +31,7 @@ else_stands false h = h
 
 mutual
   unfolding expression_tokens
+
   pub expression_stands : (e : ExpressionTree) → IsExpression e → StandAnywhere (expression_tokens e)
   expression_stands (Number p n) is = token_stands (token.Number n) refl none_stand
   expression_stands (Characters p x) is = text_stands none_stand

@@ -1,9 +1,8 @@
 -- A printed expression ends in a value, and operators stand where they need one.
-use Rattle.std.proofs.Common.{◌≡◌, ℕ, List, [], ◌∷◌, ◌++◌, Option, None, Bool, true, false, ◌||◌, refl, ap, ◌∙◌}
+use Rattle.std.proofs.Common.{◌≡◌, ℕ, List, [], ◌∷◌, ◌++◌, Bool, true, false, refl, ap}
 use Rattle.js_tree.specs.declared.token.Token.{Token}
 use Rattle.js_tree.specs.declared.token.TokenKind.TheVariants as token
 use Rattle.js_tree.specs.declared.sign.Sign.TheVariants as sign
-use Rattle.js_tree.specs.declared.bound.BoundName.{BoundName}
 use Rattle.js_tree.specs.declared.operators.UnaryOp.{UnaryOp}
 use Rattle.js_tree.specs.declared.operators.UnaryOp.TheVariants as unary
 use Rattle.js_tree.specs.declared.operators.UpdateForm.TheVariants.{Prefix, Postfix}
