@@ -13,14 +13,15 @@ use Rattle.js_grammar.specs.Statements.{at_top, script_within, script_of, script
 use Rattle.js_grammar.specs.Printing.{nowhere, statement_tokens}
 use Rattle.js_grammar.specs.Spelling.{printed_bytes}
 use Rattle.js_grammar.specs.Bare.{bare_statement}
-use Rattle.law_readable.proofs.ReadScripts.{texts_law}
+use Rattle.law_readable.proofs.ReadScripts.{scripts_law as readable_law, texts_law}
 use Rattle.law_tokens.specs.BareTokens.{bare_kind, bare_tokens}
 use Rattle.law_tokens.proofs.KeptTokens.{reading_keeps}
 use Rattle.law_places.specs.Placeless.{placeless}
 use Rattle.law_places.specs.Laws.{put_aside, PlacesArePutAside}
-use Rattle.law_pieces.specs.Laws.{TokensAreSpelt}
+use Rattle.law_pieces.proofs.Spellings.{each_is_read}
+use Rattle.law_pieces.proofs.Lexed.{each_is_spelt}
 use Rattle.law_spelling.specs.Lined.{behind_line, line_tokens, lined}
-use Rattle.law_spelling.specs.Laws.{PrintedScriptsAreLexed}
+use Rattle.law_spelling.proofs.Scripts.{scripts_lexed}
 use Rattle.round_trip.specs.Laws.{IsText, PrintingIsReadBack, TokensAreKept}
 use Rattle.round_trip.proofs.Lined.{lined_again}
 use Rattle.round_trip.proofs.SpeltTokens.{printed_spelt}
@@ -67,22 +68,30 @@ length_placeless : (ts : List Token) → length (placeless ts) ≡ length ts
 length_placeless [] = refl
 length_placeless (t ∷ ts) = ap suc (length_placeless ts)
 
-module _ (tokens_are_spelt : TokensAreSpelt) (printed_are_lexed : PrintedScriptsAreLexed) (places_aside : PlacesArePutAside) where
-  -- the tokens of a script that was read and printed
-  record Printed (body : List StatementTree) : Type 0 where
-    pub tokens : List Token
-    pub lexed : tokens_of (printed_bytes body) ≡ Ok tokens
-    pub lined_there : placeless tokens ≡ lined body
+-- the tokens that the bytes of a printed script are lexed as
+record Printed (body : List StatementTree) : Type 0 where
+  pub tokens : List Token
+  pub lexed : tokens_of (printed_bytes body) ≡ Ok tokens
+  pub lined_there : placeless tokens ≡ lined body
 
-  printed_tokens : (us : List ℕ) (ts : List Token) (body : List StatementTree) → IsText us → tokens_of us ≡ Ok ts → script_of (end_of us) ts ≡ Ok body → script_of_text us ≡ Ok body → Printed body
-  printed_tokens us ts body text lexed read whole =
-      let spelt = printed_spelt (end_of us) 200 ts body read (tokens_are_spelt us ts text lexed) in
-      let p = printed_are_lexed body (texts_law us body whole) spelt in
-      record { tokens = p.0; lexed = p.1; lined_there = p.2 }
+printed_tokens : (us : List ℕ) (ts : List Token) (body : List StatementTree) → IsText us → tokens_of us ≡ Ok ts → script_of (end_of us) ts ≡ Ok body → Printed body
+printed_tokens us ts body text lexed read =
+    let spelt = printed_spelt (end_of us) 200 ts body read (each_is_spelt us ts text lexed) in
+    let p = scripts_lexed each_is_read body (readable_law (end_of us) 200 ts body read) spelt in
+    record { tokens = p.0; lexed = p.1; lined_there = p.2 }
 
-  abbrev as_bare : Result (List StatementTree) Refusal → Result (List StatementTree) Refusal
-  as_bare m = m >>= λ again. Ok (map bare_statement again)
+pub kept : TokensAreKept
+kept us ts body text lexed whole =
+    let read : script_of (end_of us) ts ≡ Ok body = subst (λ (m : Result (List Token) Refusal). (m >>= λ x. script_of (end_of us) x) ≡ Ok body) lexed whole in
+    let p = printed_tokens us ts body text lexed read in
+    let bare : bare_tokens p.tokens ≡ bare_tokens ts = sym (bare_placeless p.tokens) ∙ (ap bare_tokens p.lined_there ∙ (bare_lined body ∙ reading_keeps (end_of us) 200 ts body read)) in
+    rw p.lexed (ap Ok bare)
 
+-- what reading gives, places put aside
+abbrev as_bare : Result (List StatementTree) Refusal → Result (List StatementTree) Refusal
+as_bare m = m >>= λ again. Ok (map bare_statement again)
+
+module _ (places_aside : PlacesArePutAside) where
   -- printed tokens are read with their places as without
   read_again : (body : List StatementTree) (ts : List Token) (end : Place) → AreStatements at_top (statements_of body) → placeless ts ≡ lined body → as_bare (script_without_limit end ts) ≡ Ok (map bare_statement body)
   read_again body ts end are there =
@@ -94,12 +103,5 @@ module _ (tokens_are_spelt : TokensAreSpelt) (printed_are_lexed : PrintedScripts
   pub read_back : PrintingIsReadBack
   read_back us body text whole =
       let first = steps (tokens_of us) (λ ts. script_of (end_of us) ts) body whole in
-      let p = printed_tokens us first.0 body text first.1 first.2 whole in
+      let p = printed_tokens us first.0 body text first.1 first.2 in
       rw p.lexed (read_again body p.tokens (end_of (printed_bytes body)) (texts_law us body whole) p.lined_there)
-
-  pub kept : TokensAreKept
-  kept us ts body text lexed whole =
-      let read : script_of (end_of us) ts ≡ Ok body = subst (λ (m : Result (List Token) Refusal). (m >>= λ x. script_of (end_of us) x) ≡ Ok body) lexed whole in
-      let p = printed_tokens us ts body text lexed read whole in
-      let bare : bare_tokens p.tokens ≡ bare_tokens ts = sym (bare_placeless p.tokens) ∙ (ap bare_tokens p.lined_there ∙ (bare_lined body ∙ reading_keeps (end_of us) 200 ts body read)) in
-      rw p.lexed (ap Ok bare)
