@@ -17,7 +17,8 @@ use Rattle.law_readable.proofs.ReadScripts.{scripts_law as readable_law, texts_l
 use Rattle.law_tokens.specs.BareTokens.{bare_kind, bare_tokens}
 use Rattle.law_tokens.proofs.KeptTokens.{reading_keeps}
 use Rattle.law_places.specs.Placeless.{placeless}
-use Rattle.law_places.specs.Laws.{put_aside, PlacesArePutAside}
+use Rattle.law_places.specs.Laws.{put_aside}
+use Rattle.law_places.proofs.AsideScripts.{places_aside}
 use Rattle.law_pieces.proofs.Spellings.{each_is_read}
 use Rattle.law_pieces.proofs.Lexed.{each_is_spelt}
 use Rattle.law_spelling.specs.Lined.{behind_line, line_tokens, lined}
@@ -91,17 +92,16 @@ kept us ts body text lexed whole =
 abbrev as_bare : Result (List StatementTree) Refusal → Result (List StatementTree) Refusal
 as_bare m = m >>= λ again. Ok (map bare_statement again)
 
-module _ (places_aside : PlacesArePutAside) where
-  -- printed tokens are read with their places as without
-  read_again : (body : List StatementTree) (ts : List Token) (end : Place) → AreStatements at_top (statements_of body) → placeless ts ≡ lined body → as_bare (script_without_limit end ts) ≡ Ok (map bare_statement body)
-  read_again body ts end are there =
-      let room = 2 * length ts + 2 in
-      let bare : script_without_limit nowhere (placeless ts) ≡ Ok (map bare_statement body) = subst (λ (us : List Token). script_without_limit nowhere us ≡ Ok (map bare_statement body)) (sym there) (lined_again nowhere body are) in
-      let same_room : script_within nowhere room (placeless ts) ≡ Ok (map bare_statement body) = subst (λ (n : ℕ). script_within nowhere (2 * n + 2) (placeless ts) ≡ Ok (map bare_statement body)) (length_placeless ts) bare in
-      aside_back (script_within end room ts) body (sym (places_aside end room ts) ∙ same_room)
+-- printed tokens are read with their places as without
+read_again : (body : List StatementTree) (ts : List Token) (end : Place) → AreStatements at_top (statements_of body) → placeless ts ≡ lined body → as_bare (script_without_limit end ts) ≡ Ok (map bare_statement body)
+read_again body ts end are there =
+    let room = 2 * length ts + 2 in
+    let bare : script_without_limit nowhere (placeless ts) ≡ Ok (map bare_statement body) = subst (λ (us : List Token). script_without_limit nowhere us ≡ Ok (map bare_statement body)) (sym there) (lined_again nowhere body are) in
+    let same_room : script_within nowhere room (placeless ts) ≡ Ok (map bare_statement body) = subst (λ (n : ℕ). script_within nowhere (2 * n + 2) (placeless ts) ≡ Ok (map bare_statement body)) (length_placeless ts) bare in
+    aside_back (script_within end room ts) body (sym (places_aside end room ts) ∙ same_room)
 
-  pub read_back : PrintingIsReadBack
-  read_back us body text whole =
-      let first = steps (tokens_of us) (λ ts. script_of (end_of us) ts) body whole in
-      let p = printed_tokens us first.0 body text first.1 first.2 in
-      rw p.lexed (read_again body p.tokens (end_of (printed_bytes body)) (texts_law us body whole) p.lined_there)
+pub read_back : PrintingIsReadBack
+read_back us body text whole =
+    let first = steps (tokens_of us) (λ ts. script_of (end_of us) ts) body whole in
+    let p = printed_tokens us first.0 body text first.1 first.2 in
+    rw p.lexed (read_again body p.tokens (end_of (printed_bytes body)) (texts_law us body whole) p.lined_there)

@@ -7,4 +7,4 @@
 
 mod laws;
 
-pub use laws::tokens_are_kept;
+pub use laws::{printing_is_read_back, tokens_are_kept};
