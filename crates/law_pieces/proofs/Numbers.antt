@@ -99,7 +99,7 @@ decimal_of_run us digits behind value n run front back alone whole is ends small
 piece_of_number : (us : List ℕ) (value n : ℕ) → is_hexadecimal_literal us ≡ false → decimal_at us ≡ Ok (pos value, n) → number_piece us ≡ Ok (Some (token.Number (pos value)), n)
 piece_of_number us value n decimal is = rw (decimal, is) refl
 
-pub at_digit : (dividing : Bool) (u : ℕ) (us : List ℕ) → is_digit u ≡ true → piece_at dividing (u ∷ us) ≡ number_piece (u ∷ us)
+at_digit : (dividing : Bool) (u : ℕ) (us : List ℕ) → is_digit u ≡ true → piece_at dividing (u ∷ us) ≡ number_piece (u ∷ us)
 unfolding piece_at
 at_digit dividing u us digit = rw (shown_no_space u (digit_shown u digit), digit_no_start u digit, digit) refl
 

@@ -78,7 +78,7 @@ unit_reads n u rest h = by_quote (nat_eq u 34) refl
 unit_written : (u : ℕ) → 1 ≤ length (escaped_unit true u)
 unit_written u = grind arith
 
-pub escape_length : (x : List ℕ) → length x ≤ length (escaped true x)
+escape_length : (x : List ℕ) → length x ≤ length (escaped true x)
 escape_length [] = omega arith
 escape_length (u ∷ us) = rw (flat_map-cons (escaped_unit true) u us) (omega (arith, length-append (escaped_unit true u) (escaped true us), unit_written u, escape_length us))
 

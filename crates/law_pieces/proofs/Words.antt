@@ -27,7 +27,7 @@ word_spelling (u ∷ us) h =
 piece_of_run : (us w : List ℕ) (n : ℕ) → prefix_len is_word_part us ≡ n → take n us ≡ w → word_piece us ≡ Ok (Some (token.Word w), n)
 piece_of_run us w n run front = rw (run, front) refl
 
-pub at_word : (dividing : Bool) (u : ℕ) (us : List ℕ) → is_word_start u ≡ true → piece_at dividing (u ∷ us) ≡ word_piece (u ∷ us)
+at_word : (dividing : Bool) (u : ℕ) (us : List ℕ) → is_word_start u ≡ true → piece_at dividing (u ∷ us) ≡ word_piece (u ∷ us)
 unfolding piece_at
 at_word dividing u us start = rw (shown_no_space u (start_shown u start), start) refl
 
