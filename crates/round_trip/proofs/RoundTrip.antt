@@ -1,22 +1,23 @@
 -- The two laws on texts, from their parts.
-use Rattle.std.proofs.Common.{◌≡◌, ℕ, suc, ◌+◌, List, [], ◌∷◌, ◌++◌, length, Result, Ok, Err, refl, sym, ap, ◌∙◌, subst}
+use Rattle.std.proofs.Common.{◌≡◌, ℕ, ◌+◌, List, [], ◌∷◌, ◌++◌, length, Result, Ok, Err, refl, sym, ap, ◌∙◌, subst}
 use Rattle.std.specs.Prelude.{◌*◌, map}
 use Rattle.std.specs.List.{flat_map}
+use Rattle.std.proofs.lemmas.List.{length-map}
 use Rattle.js_tree.specs.declared.place.Place.{Place}
 use Rattle.js_tree.specs.declared.token.Token.{Token}
 use Rattle.js_tree.specs.Tree.{StatementTree, statements_of}
 use Rattle.js_grammar.specs.Reading.{Refusal, ◌>>=◌}
 use Rattle.js_grammar.specs.Units.{place_after}
 use Rattle.js_grammar.specs.Tokens.{tokens_of}
-use Rattle.law_readable.specs.Readable.{AreStatements}
-use Rattle.js_grammar.specs.Statements.{at_top, script_within, script_of, script_without_limit, script_of_text}
+use Rattle.js_grammar.specs.Statements.{at_top, script_within, script_of, script_without_limit}
 use Rattle.js_grammar.specs.Printing.{nowhere, statement_tokens}
 use Rattle.js_grammar.specs.Spelling.{printed_bytes}
 use Rattle.js_grammar.specs.Bare.{bare_statement}
+use Rattle.law_readable.specs.Readable.{AreStatements}
 use Rattle.law_readable.proofs.ReadScripts.{scripts_law as readable_law, texts_law}
 use Rattle.law_tokens.specs.BareTokens.{bare_kind, bare_tokens}
 use Rattle.law_tokens.proofs.KeptTokens.{reading_keeps}
-use Rattle.law_places.specs.Placeless.{placeless}
+use Rattle.law_places.specs.Placeless.{placeless_token, placeless}
 use Rattle.law_places.specs.Laws.{put_aside}
 use Rattle.law_places.proofs.AsideScripts.{places_aside}
 use Rattle.law_pieces.proofs.Spellings.{each_is_read}
@@ -26,22 +27,6 @@ use Rattle.law_spelling.proofs.Scripts.{scripts_lexed}
 use Rattle.round_trip.specs.Laws.{IsText, PrintingIsReadBack, TokensAreKept}
 use Rattle.round_trip.proofs.Lined.{lined_again}
 use Rattle.round_trip.proofs.SpeltTokens.{printed_spelt}
-
--- ---- where reading a text goes well
-
--- a step that gave something was taken
-steps : {A B : Type 0} (m : Result A Refusal) (f : A → Result B Refusal) (y : B) → (m >>= f) ≡ Ok y → (x : A) × (m ≡ Ok x) × (f x ≡ Ok y)
-steps (Ok x) f y e = (x, refl, e)
-steps (Err r) f y e = cc
-
--- the place behind the last unit of a text
-abbrev end_of : List ℕ → Place
-end_of us = place_after (record { line = 1; column = 1 }) us
-
--- a script that was read with its places put aside is read with its places
-aside_back : (m : Result (List StatementTree) Refusal) (body : List StatementTree) → put_aside (map bare_statement) m ≡ Ok (map bare_statement body) → (m >>= λ again. Ok (map bare_statement again)) ≡ Ok (map bare_statement body)
-aside_back (Ok again) body e = e
-aside_back (Err r) body e = cc
 
 -- ---- bare tokens
 
@@ -65,43 +50,55 @@ bare_lined : (body : List StatementTree) → bare_tokens (lined body) ≡ bare_t
 bare_lined [] = refl
 bare_lined (s ∷ ss) = bare_before (statement_tokens s) _ _ (bare_lines ss)
 
-length_placeless : (ts : List Token) → length (placeless ts) ≡ length ts
-length_placeless [] = refl
-length_placeless (t ∷ ts) = ap suc (length_placeless ts)
+-- ---- the tokens of what is printed
+
+-- the place behind the last unit of a text
+abbrev end_of : List ℕ → Place
+end_of us = place_after (record { line = 1; column = 1 }) us
 
 -- the tokens that the bytes of a printed script are lexed as
 record Printed (body : List StatementTree) : Type 0 where
   pub tokens : List Token
   pub lexed : tokens_of (printed_bytes body) ≡ Ok tokens
-  pub lined_there : placeless tokens ≡ lined body
+  pub in_lines : placeless tokens ≡ lined body
 
 printed_tokens : (us : List ℕ) (ts : List Token) (body : List StatementTree) → IsText us → tokens_of us ≡ Ok ts → script_of (end_of us) ts ≡ Ok body → Printed body
 printed_tokens us ts body text lexed read =
     let spelt = printed_spelt (end_of us) 200 ts body read (each_is_spelt us ts text lexed) in
-    let p = scripts_lexed each_is_read body (readable_law (end_of us) 200 ts body read) spelt in
-    record { tokens = p.0; lexed = p.1; lined_there = p.2 }
+    let found = scripts_lexed each_is_read body (readable_law (end_of us) 200 ts body read) spelt in
+    record { tokens = found.0; lexed = found.1; in_lines = found.2 }
 
 pub kept : TokensAreKept
 kept us ts body text lexed whole =
     let read : script_of (end_of us) ts ≡ Ok body = subst (λ (m : Result (List Token) Refusal). (m >>= λ x. script_of (end_of us) x) ≡ Ok body) lexed whole in
     let p = printed_tokens us ts body text lexed read in
-    let bare : bare_tokens p.tokens ≡ bare_tokens ts = sym (bare_placeless p.tokens) ∙ (ap bare_tokens p.lined_there ∙ (bare_lined body ∙ reading_keeps (end_of us) 200 ts body read)) in
+    let bare : bare_tokens p.tokens ≡ bare_tokens ts = sym (bare_placeless p.tokens) ∙ (ap bare_tokens p.in_lines ∙ (bare_lined body ∙ reading_keeps (end_of us) 200 ts body read)) in
     rw p.lexed (ap Ok bare)
+
+-- ---- they are read back
 
 -- what reading gives, places put aside
 abbrev as_bare : Result (List StatementTree) Refusal → Result (List StatementTree) Refusal
 as_bare m = m >>= λ again. Ok (map bare_statement again)
 
--- printed tokens are read with their places as without
+aside_bare : (m : Result (List StatementTree) Refusal) (bodies : List StatementTree) → put_aside (map bare_statement) m ≡ Ok bodies → as_bare m ≡ Ok bodies
+aside_bare (Ok again) bodies e = e
+aside_bare (Err r) bodies e = cc
+
+-- tokens that are those of a printed script, places put aside, are read as that script
 read_again : (body : List StatementTree) (ts : List Token) (end : Place) → AreStatements at_top (statements_of body) → placeless ts ≡ lined body → as_bare (script_without_limit end ts) ≡ Ok (map bare_statement body)
-read_again body ts end are there =
-    let room = 2 * length ts + 2 in
-    let bare : script_without_limit nowhere (placeless ts) ≡ Ok (map bare_statement body) = subst (λ (us : List Token). script_without_limit nowhere us ≡ Ok (map bare_statement body)) (sym there) (lined_again nowhere body are) in
-    let same_room : script_within nowhere room (placeless ts) ≡ Ok (map bare_statement body) = subst (λ (n : ℕ). script_within nowhere (2 * n + 2) (placeless ts) ≡ Ok (map bare_statement body)) (length_placeless ts) bare in
-    aside_back (script_within end room ts) body (sym (places_aside end room ts) ∙ same_room)
+read_again body ts end are in_lines =
+    let bare : script_without_limit nowhere (placeless ts) ≡ Ok (map bare_statement body) = subst (λ (us : List Token). script_without_limit nowhere us ≡ Ok (map bare_statement body)) (sym in_lines) (lined_again nowhere body are) in
+    let same_room : script_within nowhere (2 * length ts + 2) (placeless ts) ≡ Ok (map bare_statement body) = subst (λ (n : ℕ). script_within nowhere (2 * n + 2) (placeless ts) ≡ Ok (map bare_statement body)) (length-map ts placeless_token) bare in
+    aside_bare (script_without_limit end ts) (map bare_statement body) (sym (places_aside end (2 * length ts + 2) ts) ∙ same_room)
+
+-- a step that gave something was taken
+steps : {A B : Type 0} (m : Result A Refusal) (f : A → Result B Refusal) (y : B) → (m >>= f) ≡ Ok y → (x : A) × (m ≡ Ok x) × (f x ≡ Ok y)
+steps (Ok x) f y e = (x, refl, e)
+steps (Err r) f y e = cc
 
 pub read_back : PrintingIsReadBack
 read_back us body text whole =
     let first = steps (tokens_of us) (λ ts. script_of (end_of us) ts) body whole in
     let p = printed_tokens us first.0 body text first.1 first.2 in
-    rw p.lexed (read_again body p.tokens (end_of (printed_bytes body)) (texts_law us body whole) p.lined_there)
+    rw p.lexed (read_again body p.tokens (end_of (printed_bytes body)) (texts_law us body whole) p.in_lines)

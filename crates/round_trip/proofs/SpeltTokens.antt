@@ -1,5 +1,5 @@
 -- Where the tokens of a script can be spelt, those that it is printed as can be too.
-use Rattle.std.proofs.Common.{◌≡◌, ℕ, suc, ◌^◌, ◌<◌, List, [], ◌∷◌, Some, Bool, true, false, ◌&&◌, refl, subst, arith}
+use Rattle.std.proofs.Common.{◌≡◌, ℕ, suc, ◌^◌, ◌<◌, List, [], ◌∷◌, Some, true, refl, subst, arith}
 use Rattle.std.specs.Prelude.{ℤ, pos, negsuc, nat_le}
 use Rattle.std.specs.List.{list_all}
 use Rattle.std.specs.Str.{IsAscii}
@@ -10,30 +10,15 @@ use Rattle.js_tree.specs.declared.token.TokenKind.{TokenKind}
 use Rattle.js_tree.specs.declared.token.TokenKind.TheVariants as token
 use Rattle.js_grammar.specs.Units.{is_word_part, first_passes, is_word_start}
 use Rattle.js_grammar.specs.Expressions.{name_in}
+use Rattle.law_pieces.proofs.Units.{both, both_second, all_weaker}
 use Rattle.law_pieces.specs.Spelt.{is_unit, is_literal, is_spelt}
 use Rattle.law_tokens.specs.Laws.{HoldsOfPrinted}
 use Rattle.law_tokens.proofs.KeptTokens.{holds_of_printed}
-
-both : (a b : Bool) → a ≡ true → b ≡ true → (a && b) ≡ true
-both true b h k = k
-both false b h k = h
-
-both_first : (a b : Bool) → (a && b) ≡ true → a ≡ true
-both_first true b h = refl
-both_first false b h = h
-
-both_second : (a b : Bool) → (a && b) ≡ true → b ≡ true
-both_second true b h = h
-both_second false b h = cc
 
 -- ---- units of names
 
 part_unit : (u : ℕ) → is_word_part u ≡ true → is_unit u ≡ true
 part_unit u h = grind (arith, nat_tests)
-
-word_units : (us : List ℕ) → list_all is_word_part us ≡ true → list_all is_unit us ≡ true
-word_units [] h = refl
-word_units (u ∷ us) h = both _ _ (part_unit u (both_first _ _ h)) (word_units us (both_second _ _ h))
 
 ascii_unit : (u : ℕ) → u < 128 → is_unit u ≡ true
 ascii_unit u h = grind (arith, nat_tests)
@@ -53,7 +38,7 @@ literal_units (negsuc n) h = cc
 
 -- a name can be spelt as a text
 name_spelt : (k : TokenKind) (x : List ℕ) → name_in k ≡ Some x → is_spelt k ≡ true → is_spelt (token.Text x) ≡ true
-name_spelt (token.Word w) x e h = let same : w ≡ x = cc in subst (λ (us : List ℕ). list_all is_unit us ≡ true) same (word_units w (both_second (first_passes is_word_start w) _ h))
+name_spelt (token.Word w) x e h = let same : w ≡ x = cc in subst (λ (us : List ℕ). list_all is_unit us ≡ true) same (all_weaker is_word_part is_unit part_unit w (both_second (first_passes is_word_start w) _ h))
 name_spelt (token.Text w) x e h = let same : w ≡ x = cc in subst (λ (us : List ℕ). list_all is_unit us ≡ true) same h
 name_spelt (token.Number n) x e h = let same : signed_decimal n ≡ x = cc in subst (λ (us : List ℕ). list_all is_unit us ≡ true) same (literal_units n h)
 name_spelt (token.Sign s) x e h = cc
