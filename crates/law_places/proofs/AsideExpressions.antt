@@ -18,7 +18,7 @@ use Rattle.js_grammar.specs.declared.form.Form.TheVariants.{Plain}
 use Rattle.js_grammar.specs.declared.around.Around.{Around}
 use Rattle.js_grammar.specs.Reading.{◌>>=◌}
 use Rattle.js_grammar.specs.Words.{keyword_of}
-use Rattle.js_grammar.specs.Readers.{Reader, row, rest_of, next_sign, place_at, expect, name, parameters}
+use Rattle.js_grammar.specs.Readers.{row, rest_of, next_sign, place_at, expect, name, parameters}
 use Rattle.js_grammar.specs.Expressions.{Deeper, next_name, is_accessor, closes, statement_unless, a_statement, in_function, a_part, expression, in_parentheses, an_argument, arguments_by, arguments, item_value, item_by, an_item, property_from, property_by, named_property, property_or_end, a_property, function_from, function_by, function_expression, new_arguments_by, new_arguments, new_expression, word_value, sign_value, primary_by, primary}
 use Rattle.js_grammar.specs.Printing.{nowhere}
 use Rattle.js_grammar.specs.Bare.{bare_expression, bare_statement}

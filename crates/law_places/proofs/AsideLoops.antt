@@ -21,8 +21,7 @@ use Rattle.js_grammar.specs.Statements.{in_loop, before_in, semicolon_if, a_decl
 use Rattle.js_grammar.specs.Printing.{nowhere}
 use Rattle.js_grammar.specs.Bare.{bare_expression, bare_statement, bare_start, bare_target}
 use Rattle.law_places.specs.Placeless.{placeless}
-use Rattle.law_places.specs.Laws.{put_aside}
-use Rattle.law_places.proofs.Asides.{step, chosen, both, bare_turn, Aside, SkipsAside, rest_aside, sign_aside, keyword_aside, row_aside, nowhere_at, refused_aside, expect_aside}
+use Rattle.law_places.proofs.Asides.{step, chosen, both, Aside, SkipsAside, rest_aside, sign_aside, keyword_aside, row_aside, nowhere_at, refused_aside, expect_aside}
 use Rattle.law_places.proofs.BareParts.{declared_bare, optional_aside, declarations_aside, target_aside}
 use Rattle.law_places.proofs.AsideExpressions.{DeeperAside, expression_aside, in_parentheses_aside}
 use Rattle.law_places.proofs.AsideStatements.{a_declared_aside}

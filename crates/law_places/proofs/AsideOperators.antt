@@ -1,11 +1,10 @@
 -- Reading suffixes and operators, with places put aside: one lemma for each production.
-use Rattle.std.proofs.Common.{◌≡◌, ℕ, zero, suc, List, [], ◌∷◌, Option, Some, None, refl}
+use Rattle.std.proofs.Common.{◌≡◌, ℕ, zero, suc, List, Option, Some, None, refl}
 use Rattle.std.specs.Prelude.{map}
 use Rattle.js_tree.specs.declared.place.Place.{Place}
 use Rattle.js_tree.specs.declared.token.Token.{Token}
 use Rattle.js_tree.specs.declared.sign.Sign.{Sign}
 use Rattle.js_tree.specs.declared.sign.Sign.TheVariants as sign
-use Rattle.js_tree.specs.declared.refusal.ReadKind.TheVariants.{Unexpected}
 use Rattle.js_tree.specs.declared.operators.UnaryOp.{UnaryOp}
 use Rattle.js_tree.specs.declared.operators.UpdateOp.{UpdateOp}
 use Rattle.js_tree.specs.declared.operators.BinaryOp.{BinaryOp}
@@ -22,7 +21,7 @@ use Rattle.js_grammar.specs.Printing.{nowhere}
 use Rattle.js_grammar.specs.Bare.{bare_expression}
 use Rattle.law_places.specs.Placeless.{placeless}
 use Rattle.law_places.specs.Laws.{put_aside}
-use Rattle.law_places.proofs.Asides.{step, chosen, stays, both, bare_turn, Aside, rest_aside, sign_aside, unary_op_aside, update_op_aside, postfix_op_aside, binary_op_aside, assign_op_aside, row_aside, nowhere_at, refused_aside, expect_aside, any_word_aside}
+use Rattle.law_places.proofs.Asides.{step, chosen, stays, both, bare_turn, Aside, rest_aside, sign_aside, unary_op_aside, update_op_aside, postfix_op_aside, binary_op_aside, assign_op_aside, row_aside, nowhere_at, expect_aside, any_word_aside}
 use Rattle.law_places.proofs.BareParts.{suffix_bare, operand_bare, chained_aside, suffixed_by_aside, target_aside}
 use Rattle.law_places.proofs.AsideExpressions.{DeeperAside, expression_aside, arguments_aside, primary_aside}
 
@@ -122,8 +121,8 @@ module _ (end : Place) (d c : Deeper) (g : DeeperAside d c) where
   assigned_by_aside form (Some op) e ts =
       rw (target_aside e, nowhere_at ts, rest_aside ts) (
       chosen (both bare_expression) (is_target e) _ _
-          (step (both bare_expression) (both bare_expression) (d.value form (rest_of ts)) _ _ (g.value form (rest_of ts)) (λ value. refl))
-          refl)
+      (step (both bare_expression) (both bare_expression) (d.value form (rest_of ts)) _ _ (g.value form (rest_of ts)) (λ value. refl))
+      refl)
 
   pub assignment_aside : (form : Form) → Aside bare_expression (assignment nowhere c form) (assignment end d form)
   unfolding assignment

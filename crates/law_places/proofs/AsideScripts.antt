@@ -1,6 +1,6 @@
 -- Reading statements, with so much room for nesting, and whole scripts, with places put aside.
-use Rattle.std.proofs.Common.{◌≡◌, ℕ, zero, suc, List, [], ◌∷◌, Option, Some, None, refl}
-use Rattle.std.specs.Prelude.{map}
+use Rattle.std.proofs.Common.{◌≡◌, ℕ, zero, suc, List, [], ◌∷◌, Option, Some, None, Ok, Err, refl, sym, ◌∙◌}
+use Rattle.std.specs.Prelude.{map, Result}
 use Rattle.js_tree.specs.declared.place.Place.{Place}
 use Rattle.js_tree.specs.declared.token.Token.{Token}
 use Rattle.js_tree.specs.declared.token.TokenKind.{TokenKind}
@@ -13,15 +13,16 @@ use Rattle.js_grammar.specs.declared.keyword.Keyword.{Keyword}
 use Rattle.js_grammar.specs.declared.keyword.Keyword.TheVariants as word
 use Rattle.js_grammar.specs.declared.form.LeftSide.TheVariants as side
 use Rattle.js_grammar.specs.declared.around.Around.{Around}
+use Rattle.js_grammar.specs.Reading.{Refusal}
 use Rattle.js_grammar.specs.Words.{keyword_of}
-use Rattle.js_grammar.specs.Readers.{row, rest_of, next_sign}
+use Rattle.js_grammar.specs.Readers.{row, next_sign}
 use Rattle.js_grammar.specs.Expressions.{Deeper, a_statement}
 use Rattle.js_grammar.specs.Statements.{at_top, whole, unlabelled, word_statement, statement_by, statement, deeper, script_within}
 use Rattle.js_grammar.specs.Printing.{nowhere}
 use Rattle.js_grammar.specs.Bare.{bare_expression, bare_statement}
 use Rattle.law_places.specs.Placeless.{placeless}
 use Rattle.law_places.specs.Laws.{put_aside, PlacesArePutAside}
-use Rattle.law_places.proofs.Asides.{step, both, Aside, rest_aside, sign_aside, row_aside, refused_aside}
+use Rattle.law_places.proofs.Asides.{step, both, Aside, sign_aside, row_aside, refused_aside}
 use Rattle.law_places.proofs.AsideExpressions.{DeeperAside, a_statement_aside}
 use Rattle.law_places.proofs.AsideOperators.{suffixed_aside, unary_aside, assignment_aside}
 use Rattle.law_places.proofs.AsideStatements.{evaluated_aside, block_from_aside, block_aside, var_aside, if_aside, alone_aside, alone_if_aside, return_aside, throw_aside, switch_aside, try_aside, function_statement_aside}
@@ -104,3 +105,11 @@ module _ (end : Place) where
 
 pub places_aside : PlacesArePutAside
 places_aside end room ts = script_aside end room ts
+
+given_back : {A : Type 0} (f : A → A) (m : Result A Refusal) (y : A) → put_aside f m ≡ Ok y → (x : A) × (m ≡ Ok x) × (f x ≡ y)
+given_back f (Ok x) y h = (x, refl, cc)
+given_back f (Err e) y h = cc
+
+-- so a script that placeless tokens spell is, with places put aside, the one that the tokens spell
+pub read_back : (end : Place) (room : ℕ) (ts : List Token) (other : List StatementTree) → script_within nowhere room (placeless ts) ≡ Ok other → (body : List StatementTree) × (script_within end room ts ≡ Ok body) × (map bare_statement body ≡ other)
+read_back end room ts other h = given_back (map bare_statement) (script_within end room ts) other (sym (places_aside end room ts) ∙ h)

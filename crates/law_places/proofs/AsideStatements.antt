@@ -3,7 +3,6 @@ use Rattle.std.proofs.Common.{◌≡◌, List, [], ◌∷◌, ◌++◌, Option, 
 use Rattle.std.specs.Prelude.{map}
 use Rattle.std.specs.Option.{option_map}
 use Rattle.js_tree.specs.declared.place.Place.{Place}
-use Rattle.js_tree.specs.declared.token.Token.{Token}
 use Rattle.js_tree.specs.declared.sign.Sign.{Sign}
 use Rattle.js_tree.specs.declared.sign.Sign.TheVariants as sign
 use Rattle.js_tree.specs.declared.bound.BoundName.{BoundName}
@@ -14,18 +13,15 @@ use Rattle.js_tree.specs.declared.statement.Catch.{Catch}
 use Rattle.js_tree.specs.Tree.{ExpressionTree, StatementTree, Return, absent}
 use Rattle.js_grammar.specs.declared.keyword.Keyword.{Keyword}
 use Rattle.js_grammar.specs.declared.keyword.Keyword.TheVariants as word
-use Rattle.js_grammar.specs.declared.turn.Turn.TheVariants.{More}
 use Rattle.js_grammar.specs.declared.form.Form.{Form}
 use Rattle.js_grammar.specs.declared.form.Form.TheVariants.{Plain}
 use Rattle.js_grammar.specs.declared.around.Around.{Around}
-use Rattle.js_grammar.specs.Reading.{◌>>=◌}
 use Rattle.js_grammar.specs.Readers.{row, rest_of, next_sign, next_keyword, place_at, expect, name, semicolon}
 use Rattle.js_grammar.specs.Expressions.{Deeper, a_statement, expression, in_parentheses, function_from}
 use Rattle.js_grammar.specs.Statements.{inside, in_switch, has_part, ends, begins_line, evaluated, block_from, block, first_value_by, first_value, a_declared, var_statement, one_branch, branch_by, a_branch, otherwise_by, otherwise, if_statement, alone, alone_if, returned_by, returned_if, return_statement, thrown_by, throw_statement, clause_from, case_by, a_case, default_by, clauses, switch_statement, catch_by, catch_part, finally_by, finally_part, tried, try_statement, declared_if, function_statement}
 use Rattle.js_grammar.specs.Printing.{nowhere}
 use Rattle.js_grammar.specs.Bare.{bare_expression, bare_statement}
 use Rattle.law_places.specs.Placeless.{placeless}
-use Rattle.law_places.specs.Laws.{put_aside}
 use Rattle.law_places.proofs.Asides.{step, stays, both, bare_turn, Aside, rest_aside, sign_aside, keyword_aside, ends_aside, line_aside, row_aside, parted_aside, nowhere_at, refused_aside, expect_aside, name_aside, semicolon_aside}
 use Rattle.law_places.proofs.BareParts.{function_bare, declared_bare, branch_bare, clause_bare, catch_bare, statements_aside, function_aside, declarations_aside, branches_aside, clauses_aside, catch_aside, optional_statement_aside}
 use Rattle.law_places.proofs.AsideExpressions.{DeeperAside, a_statement_aside, expression_aside, in_parentheses_aside, function_from_aside}
