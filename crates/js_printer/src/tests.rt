@@ -1,4 +1,4 @@
-// What trees are printed as. The texts are by this project's spelling, as docs/LANGUAGE.md has it.
+// What trees are printed as. The expected texts are written by hand from the rules in docs/DECISIONS.md, "The language".
 use crate::print;
 use js_tree::{
     AssignOp, BinaryOp, Bound, BoundName, Branch, Catch, Clause, Declared, Expression,
@@ -52,12 +52,17 @@ fn block(alloc: Global, x: &str) -> Result<Statement, Fail> {
     Ok(action(StatementNode::Block(TreeList::from_vec(all))))
 }
 
-/// What a script of one statement is printed as.
-fn printed(alloc: Global, one: Statement) -> Result<String, Fail> {
-    let all: StatementList = TreeList::from_vec(vec![in alloc; one]?);
+/// What a script of these statements is printed as.
+fn printed_script(alloc: Global, all: Vec<Statement>) -> Result<String, Fail> {
+    let all: StatementList = TreeList::from_vec(all);
     let script = Script::new(all).ok_or("too large")?;
     let bytes = print(alloc, &script)?;
     Ok(String::from_utf8(bytes).map_err(|_| "no text")?)
+}
+
+/// What a script of one statement is printed as.
+fn printed(alloc: Global, one: Statement) -> Result<String, Fail> {
+    printed_script(alloc, vec![in alloc; one]?)
 }
 
 /// What an expression is printed as, in a statement.
@@ -137,6 +142,17 @@ fn row(alloc: Global) -> Result<Expression, Fail> {
 }
 
 #[test]
+fn each_statement_of_a_script_is_a_line(rt: HostRuntime) -> Result<(), Fail> {
+    let alloc = rt.alloc();
+    let none = printed_script(alloc, Vec::new(alloc))?;
+    assert_eq!(rt; none.as_str(), "");
+    let all = vec![in alloc; evaluated(alloc, "a")?, block(alloc, "b")?]?;
+    let text = printed_script(alloc, all)?;
+    assert_eq!(rt; text.as_str(), "a ;\n{ b ; }\n");
+    Ok(())
+}
+
+#[test]
 fn expressions_are_printed(rt: HostRuntime) -> Result<(), Fail> {
     let alloc = rt.alloc();
     let whole = FunctionPart::Whole(Box::new(alloc, function(alloc)?)?);
@@ -148,6 +164,7 @@ fn expressions_are_printed(rt: HostRuntime) -> Result<(), Fail> {
         (hole_and_name(alloc)?, "[ , a , , ] ;\n"),
         (object(alloc)?, "( { \"if\" : 12 , \"a \\\"\\\\\\u000a\" : \"\\u00e9\" } ) ;\n"),
         (node(ExpressionNode::Function(whole)), "( function f ( a , b ) { return a ; } ) ;\n"),
+        (node(ExpressionNode::Function(FunctionPart::Numbered(7))), "( function 7 ) ;\n"),
         (suffixed(alloc)?, "( a . if [ b ] ( c , d ) ) ;\n"),
         // The arguments of `new` are always written.
         (node(ExpressionNode::New(boxed(alloc, "a")?, TreeList::new(alloc))), "( new a ( ) ) ;\n"),
