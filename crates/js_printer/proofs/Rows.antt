@@ -1,6 +1,6 @@
 -- Loops over lists of parts: what a pattern `[one, rest @ ..]` takes apart, and one turn of each loop.
 -- A turn of a loop leads from the row before it, `xs`, and the bytes `a` to the row behind it, `rest`; `whole` is what the loop is to write.
-use Rattle.std.proofs.Common.{◌≡◌, ℕ, ◌+◌, ◌-◌, ◌<◌, ◌≤◌, List, [], ◌∷◌, ◌++◌, Bool, true, false, Option, length, take, drop, get_or, nat_eq, refl, sym, ap, ◌∙◌, subst, arith}
+use Rattle.std.proofs.Common.{◌≡◌, ℕ, ◌-◌, ◌<◌, ◌≤◌, List, [], ◌∷◌, Bool, true, false, Option, length, take, drop, get_or, nat_eq, refl, sym, ap, ◌∙◌, arith}
 use mathlib.Core.Bool.{not}
 use Rattle.std.proofs.Math.Dec.{eqb-suc-zero}
 use Rattle.std.proofs.lemmas.List.{take_all}
@@ -18,7 +18,7 @@ use Rattle.js_tree.specs.Size.{expressions_size, items_size, properties_size, su
 use Rattle.js_tree.specs.Tree.{ExpressionTree, StatementTree, optional_of, expressions_of, items_of, statements_of}
 use Rattle.js_tree.specs.View.{properties_of, suffix_of, suffixes_of, operands_of, declarations_of, branches_of, clauses_of}
 use Rattle.js_grammar.specs.declared.keyword.Keyword.TheVariants as word
-use Rattle.js_grammar.specs.Printing.{printed, sign_token, word_token, keyword_token, binary_token, comma_if, else_if, more_names, more_expressions, more_items, more_properties, more_declared, more_branches, parameters_tokens, expression_tokens, expressions_tokens, items_tokens, item_tokens, properties_tokens, suffix_tokens, suffixes_tokens, operands_tokens, statement_tokens, statements_tokens, first_value_tokens, declarations_tokens, branches_tokens, test_tokens, clauses_tokens}
+use Rattle.js_grammar.specs.Printing.{printed, sign_token, word_token, keyword_token, binary_token, comma_if, else_if, parameters_tokens, expression_tokens, expressions_tokens, items_tokens, item_tokens, properties_tokens, suffix_tokens, suffixes_tokens, operands_tokens, statement_tokens, statements_tokens, first_value_tokens, declarations_tokens, branches_tokens, test_tokens, clauses_tokens}
 use Rattle.js_printer.specs.Written.{written}
 use Rattle.js_printer.proofs.Tokens.{written_append}
 

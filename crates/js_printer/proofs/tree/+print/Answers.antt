@@ -1,5 +1,5 @@
 -- What the loops leave: each turn by its lemma in Rows, and the end of the row.
-use Rattle.std.proofs.Common.{◌≡◌, List, refl, ap, ◌∙◌}
+use Rattle.std.proofs.Common.{refl, ap, ◌∙◌}
 use Rattle.js_tree.specs.Size.{expressions_size, items_size, properties_size, suffixes_size, operands_size, statements_size, declarations_size, branches_size, clauses_size}
 use Rattle.js_tree.specs.Tree.{expressions_of, items_of, statements_of}
 use Rattle.js_tree.specs.View.{properties_of, suffixes_of, operands_of, declarations_of, branches_of, clauses_of}

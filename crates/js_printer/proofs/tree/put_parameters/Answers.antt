@@ -1,5 +1,5 @@
 -- What the loop leaves: its turn by the lemma in Rows, and the end of the row.
-use Rattle.std.proofs.Common.{◌≡◌, length, refl}
+use Rattle.std.proofs.Common.{length, refl}
 use Rattle.js_grammar.specs.Printing.{expression_tokens, parameters_tokens}
 use Rattle.js_printer.proofs.Rows.{first_and_rest, all_written, names_turn}
 use Rattle.js_printer.proofs.tree.put_parameters.Goals as goal
