@@ -9,7 +9,7 @@ use std::alloc::Global;
 use utf16_text::Memory;
 
 /// The script as it is printed, in ASCII: a line for each of its statements, tokens parted by one space, and each
-/// expression that is no leaf in brackets. What is read from these bytes is the same script, places aside.
+/// expression that is no leaf in brackets. Memory where none is left for the bytes.
 pub fn print(alloc: Global, script: &Script) -> Result<Vec<u8>, Memory>
     ensures printed { IfOk result (λ bytes. bytes.items ≡ printed_bytes script.now) }
 {
