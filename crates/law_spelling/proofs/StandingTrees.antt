@@ -32,7 +32,7 @@ else_stands false h = h
 mutual
   unfolding expression_tokens
 
-  pub expression_stands : (e : ExpressionTree) → IsExpression e → StandAnywhere (expression_tokens e)
+  expression_stands : (e : ExpressionTree) → IsExpression e → StandAnywhere (expression_tokens e)
   expression_stands (Number p n) is = token_stands (token.Number n) refl none_stand
   expression_stands (Characters p x) is = text_stands none_stand
   expression_stands (True p) is = word_stands none_stand
@@ -107,7 +107,7 @@ mutual
   statement_stands a (Declare p x f) is = word_stands (word_stands (function_stands f is.3))
   statement_stands a (DeclareNumbered p x n) is = absurd is
 
-  pub statements_stand : (a : Around) (ss : Statements) → AreStatements a ss → StandAnywhere (statements_tokens ss)
+  statements_stand : (a : Around) (ss : Statements) → AreStatements a ss → StandAnywhere (statements_tokens ss)
   statements_stand a no_statement is = none_stand
   statements_stand a (a_statement s ss) is = rows_stand (statement_stands a s is.0) (statements_stand a ss is.1)
 
