@@ -1,0 +1,31 @@
+//! What the parser of scripts reads and makes without recursion: what comes next, operators by their tokens, names and signs
+//! that must stand somewhere, and nodes from their parts.
+//!
+//! Each function gives what js_grammar says of it. It stands on js_lexer, js_grammar and js_tree, and js_parser alone uses it.
+#![tactic(auto)]
+
+mod around;
+mod lookahead;
+mod nodes;
+mod operators;
+mod place;
+mod reading;
+mod words;
+
+pub use around::{at_top, in_function, in_loop, in_switch, inside};
+pub use lookahead::{
+    begins_line, closes, ends, is_accessor, is_sign, next_keyword, next_sign, refused_word,
+    rest_of, semicolon_if,
+};
+pub use nodes::{
+    assign_node, before_in, chained, conditional_node, declare_node, do_node, evaluate_node,
+    for_in_node, for_node, function_node, has_part, if_node, joined, new_node, return_node,
+    suffixed_by, switch_node, throw_node, try_node, unary_node, unbound, update_node, while_node,
+    with_default,
+};
+pub use operators::{is_target, next_assign, next_at_level, next_postfix, next_unary, next_update};
+pub use place::end_of;
+pub use reading::{
+    Read, alone, broken, continued, expect, expect_while, next_name, place_at, read_name,
+    read_parameters, read_semicolon, read_word, refused,
+};
