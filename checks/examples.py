@@ -50,6 +50,12 @@ def check_readme(failures):
 
 
 def check_examples(failures):
+    printed = sorted(name[:-8] for name in os.listdir("examples") if name.endswith(".printed"))
+    for name in printed:
+        with open(f"examples/{name}.printed", "rb") as file:
+            text = file.read()
+        found = run(["./pac", "check", f"examples/{name}.pac"])
+        check(failures, f"examples/{name}", (found.stdout, found.returncode), (text, 0))
     names = sorted(name[:-4] for name in os.listdir("examples") if name.endswith(".url"))
     for name in names:
         with open(f"examples/{name}.url", encoding="utf-8") as file:

@@ -1,11 +1,13 @@
 // The answer of a command, before it is written.
-ghost use Rattle.std.specs.Prelude.{◌++◌, ◌∷◌, []};
+ghost use Rattle.std.specs.Prelude.{◌≡◌, ◌++◌, ◌∷◌, []};
 ghost use Rattle.pac_plan.specs.Plan.{line};
 ghost use Rattle.pac_plan.specs.Follows.{IsUnlessMemory, Ends};
 ghost use Rattle.pac_command.specs.Resolve.{reported};
+ghost use Rattle.pac_command.specs.Scripts as scripts;
 ghost use Rattle.pac_command.specs.AnswerView.{made};
 
 use crate::Status;
+use js_tree::{Place, ReadKind};
 use pac_ports::FilesAnswer;
 use std::alloc::Global;
 use utf16_text::{Memory, Text};
@@ -43,6 +45,30 @@ pub(crate) fn not_read(alloc: Global, kind: &str, why: FilesAnswer) -> Result<An
         FilesAnswer::Failed => line(alloc, Status::ReadFault, "fault read ", kind, ""),
         FilesAnswer::TooLong => line(alloc, Status::Refused, "refused ", kind, " TooLong"),
         FilesAnswer::Memory => Err(Memory),
+    }
+}
+
+/// The answer where a script is refused.
+pub(crate) fn refused_script(alloc: Global, kind: ReadKind, place: Place) -> Result<Answer, Memory>
+    ensures { IsUnlessMemory (scripts.refused_script (kind, place)) (made result) }
+{
+    let name = kind_name(kind);
+    let text = format!(in alloc; "refused script {place} {name}\n")?;
+    Ok(Answer {
+        status: Status::Refused,
+        text: text.into_bytes(),
+    })
+}
+
+fn kind_name(kind: ReadKind) -> &'static str
+    ensures { result.now ≡ scripts.kind_name kind }
+{
+    match kind {
+        ReadKind::BadToken => "BadToken",
+        ReadKind::Unexpected => "Unexpected",
+        ReadKind::TooDeep => "TooDeep",
+        ReadKind::FractionLiteral => "FractionLiteral",
+        ReadKind::Unsupported => "Unsupported",
     }
 }
 

@@ -1,12 +1,14 @@
 //! The commands and the program's one top call, `pac`.
 //!
 //! Each command is a plan of pac_plan, in `specs/`, and code that follows it. It stands on pac_plan and pac_ports for the
-//! outside, on js_interp for the runs of scripts, and on utf16_text.
+//! outside, on js_parser and js_printer for scripts, on js_interp for their runs, and on utf16_text.
 #![tactic(auto)]
 
 mod answer;
+mod check;
 mod first_url;
 mod resolve;
+mod script;
 mod top;
 mod words;
 

@@ -1,25 +1,25 @@
 // `resolve`: one URL by one script.
-ghost use Rattle.std.specs.Prelude.{◌≡◌, ◌+◌};
+ghost use Rattle.std.specs.Prelude.{◌≡◌, ◌+◌, ◌≤◌, length};
 ghost use Rattle.utf16_text.specs.Decode.{decoded_units, utf16_units};
 ghost use Rattle.js_interp.specs.FirstForm.{first_form_of, result_of};
-ghost use Rattle.js_interp.specs.FirstViews.{ReadsAs};
 ghost use Rattle.pac_plan.specs.Plan.{Outside};
 ghost use Rattle.pac_plan.specs.Follows.{Follows, IsUnlessMemory};
-ghost use Rattle.pac_command.specs.Resolve.{no_talks, resolve_plan, with_script, with_host, reported};
+ghost use Rattle.pac_command.specs.Resolve.{no_talks, resolve_plan, with_source, with_form, with_host, reported};
 ghost use Rattle.pac_command.specs.FirstUrl.{first_host_of};
 ghost use Rattle.pac_command.specs.AnswerView.{made};
 
 use crate::Status;
-use crate::answer::{Answer, line, not_read, report};
+use crate::answer::{Answer, line, not_read, refused_script, report};
 use crate::first_url::{UrlView, view};
+use crate::script::{FILE_LIMIT, decoded};
 use js_interp::first::{self, FirstAnswer, FirstScript};
+use js_parser::read_script;
+use js_tree::ReadAnswer;
 use pac_ports::Files;
 use std::alloc::Global;
 use std::sync::ledger::Ledger;
 use step_counter::Steps;
 use utf16_text::{Memory, Text};
-
-const FILE_LIMIT: usize = 1_048_576;
 
 /// Reads the script, then the URL, runs the script for the URL's host, and reports.
 pub(crate) fn resolve<F: Files, L: Ledger>(
@@ -45,22 +45,47 @@ fn resolve_file<L: Ledger>(
     url: &str,
     runs: &mut Steps<L>,
 ) -> Result<Answer, Memory>
-    ensures { (o : Outside) → Follows no_talks (with_script (first_form_of (decoded_units bytes.now)) (utf16_units url.now))
+    requires { length bytes.now ≤ 1048576 }
+    ensures { (o : Outside) → Follows no_talks (with_source (decoded_units bytes.now) (utf16_units url.now))
         (record o { runs = runs.old }) (record o { runs = runs.new }) (made result) }
 {
-    match read_script(alloc, bytes) {
-        Ok(script) => resolve_url(alloc, &script, url, runs),
-        Err(FirstAnswer::NotYet) => line(alloc, Status::Refused, "refused ", "script NotYet", ""),
-        Err(FirstAnswer::Memory) => Err(Memory),
+    match decoded(alloc, bytes) {
+        Ok(source) => resolve_source(alloc, &source, url, runs),
+        Err(_) => Err(Memory),
     }
 }
 
-fn read_script(alloc: Global, bytes: &[u8]) -> Result<FirstScript, FirstAnswer>
-    ensures { ReadsAs (first_form_of (decoded_units bytes.now)) result }
+// A script that is refused is not looked at for its form.
+fn resolve_source<L: Ledger>(
+    alloc: Global,
+    source: &Text,
+    url: &str,
+    runs: &mut Steps<L>,
+) -> Result<Answer, Memory>
+    requires { length source.now ≤ 1048576 }
+    ensures { (o : Outside) → Follows no_talks (with_source source.now (utf16_units url.now))
+        (record o { runs = runs.old }) (record o { runs = runs.new }) (made result) }
 {
-    match Text::from_bytes(alloc, bytes) {
-        Ok(source) => first::read(alloc, &source),
-        Err(_) => Err(FirstAnswer::Memory),
+    match read_script(alloc, source) {
+        Ok(_) => resolve_form(alloc, source, url, runs),
+        Err(ReadAnswer::Refused(kind, place)) => refused_script(alloc, kind, place),
+        Err(ReadAnswer::Memory) => Err(Memory),
+    }
+}
+
+fn resolve_form<L: Ledger>(
+    alloc: Global,
+    source: &Text,
+    url: &str,
+    runs: &mut Steps<L>,
+) -> Result<Answer, Memory>
+    ensures { (o : Outside) → Follows no_talks (with_form (first_form_of source.now) (utf16_units url.now))
+        (record o { runs = runs.old }) (record o { runs = runs.new }) (made result) }
+{
+    match first::read(alloc, source) {
+        Ok(script) => resolve_url(alloc, &script, url, runs),
+        Err(FirstAnswer::NotYet) => line(alloc, Status::Refused, "refused ", "script NotYet", ""),
+        Err(FirstAnswer::Memory) => Err(Memory),
     }
 }
 

@@ -97,10 +97,48 @@ fn each_answer_comes_with_its_text(rt: HostRuntime) -> Result<(), Fail> {
             "url 1 http://other.example/\nresult DIRECT\nruns 1\n",
         ),
         (
-            "return 1;",
+            "var a;",
             "resolve s.pac http://example.com/a",
             Status::Refused,
             "refused script NotYet\n",
+        ),
+        (
+            "return \"x\";",
+            "resolve s.pac http://example.com/a",
+            Status::Refused,
+            "refused script 1:1 Unexpected\n",
+        ),
+        (
+            "var x = 1.5;",
+            "check s.pac",
+            Status::Refused,
+            "refused script 1:9 FractionLiteral\n",
+        ),
+        (
+            "var x = /a/;",
+            "check s.pac",
+            Status::Refused,
+            "refused script 1:9 Unsupported\n",
+        ),
+        (
+            "var x = \"a;",
+            "check s.pac",
+            Status::Refused,
+            "refused script 1:9 BadToken\n",
+        ),
+        ("a++\n(b)", "check s.pac", Status::Good, "( a ++ ) ;\nb ;\n"),
+        (
+            "a = b\n(c)",
+            "check s.pac",
+            Status::Good,
+            "( a = ( b ( c ) ) ) ;\n",
+        ),
+        ("", "check s.pac", Status::Good, ""),
+        (
+            DIRECT,
+            "check other.pac",
+            Status::ReadFault,
+            "fault read script\n",
         ),
         (
             DIRECT,
@@ -134,6 +172,9 @@ fn each_answer_comes_with_its_text(rt: HostRuntime) -> Result<(), Fail> {
         ),
         (DIRECT, "", Status::Usage, USAGE),
         (DIRECT, "resolve s.pac", Status::Usage, USAGE),
+        (DIRECT, "check", Status::Usage, USAGE),
+        (DIRECT, "check -s", Status::Usage, USAGE),
+        (DIRECT, "check s.pac http://a/", Status::Usage, USAGE),
         (DIRECT, "resolve -s http://a/", Status::Usage, USAGE),
         (DIRECT, "--help", Status::Usage, USAGE),
         (
@@ -150,6 +191,28 @@ fn each_answer_comes_with_its_text(rt: HostRuntime) -> Result<(), Fail> {
         let found = answer(alloc, words, &mut files, &mut out)?;
         assert_eq!(rt; found, status, "{words}");
         assert_eq!(rt; out.bytes(), text.as_bytes(), "{words}");
+    }
+    Ok(())
+}
+
+#[test]
+fn brackets_nest_up_to_the_limit(rt: HostRuntime) -> Result<(), Fail> {
+    let alloc = rt.alloc();
+    // how many brackets, status, what is written
+    let cases = [
+        (198, Status::Good, "1 ;\n"),
+        (199, Status::Refused, "refused script 1:200 TooDeep\n"),
+    ];
+    for (count, status, text) in cases {
+        let mut script = vec![in alloc; b'('; count]?;
+        script.push(b'1')?;
+        script.extend_from_slice(&vec![in alloc; b')'; count]?)?;
+        let mut files = MemoryFiles::new(alloc);
+        files.add(alloc, "s.pac", &script)?;
+        let mut out = MemorySink::new(alloc, 100)?;
+        let found = answer(alloc, "check s.pac", &mut files, &mut out)?;
+        assert_eq!(rt; found, status);
+        assert_eq!(rt; out.bytes(), text.as_bytes());
     }
     Ok(())
 }

@@ -9,8 +9,9 @@ ghost use Rattle.pac_command.specs.AnswerView.{answer_view, made};
 
 use crate::Status;
 use crate::answer::{Answer, line};
+use crate::check::check;
 use crate::resolve::resolve;
-use crate::words::read_words;
+use crate::words::{Command, read_words};
 use pac_ports::{Clock, Dice, Files, Link, Sink, put};
 use std::alloc::Global;
 use std::sync::ledger::Ledger;
@@ -55,7 +56,8 @@ fn answer_to<F: Files, L: Ledger>(
         (record o { files = F.state files.new; runs = runs.new }) (made result) }
 {
     match read_words(words) {
-        Some(words) => resolve(alloc, words.script, words.url, files, runs),
+        Some(Command::Resolve { script, url }) => resolve(alloc, script, url, files, runs),
+        Some(Command::Check { script }) => check(alloc, script, files),
         None => line(
             alloc,
             Status::Usage,

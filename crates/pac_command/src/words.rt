@@ -1,13 +1,15 @@
 // The words of the command line.
-ghost use Rattle.std.specs.Prelude.{◌≡◌, map, option_map, string_bytes};
+ghost use Rattle.std.specs.Prelude.{◌≡◌, ◌∷◌, [], map, option_map, string_bytes};
 ghost use Rattle.pac_command.specs.Words.{is_dashed, command_of};
 ghost use Rattle.pac_command.specs.CommandView.{command_view};
 
-/// The words of `resolve`: one URL by one script.
+/// A command with its words.
 #[derive(Clone, Copy)]
-pub(crate) struct ResolveWords<'a> {
-    pub(crate) script: &'a str,
-    pub(crate) url: &'a str,
+pub(crate) enum Command<'a> {
+    /// One URL by one script.
+    Resolve { script: &'a str, url: &'a str },
+    /// A script alone.
+    Check { script: &'a str },
 }
 
 // Whether the word looks like an option: it begins with `-` and isn't `-` alone.
@@ -21,18 +23,32 @@ fn looks_dashed(word: &str) -> bool
 }
 
 /// The command, where the words are read.
-pub(crate) fn read_words(words: &[String]) -> Option<ResolveWords<'_>>
+pub(crate) fn read_words(words: &[String]) -> Option<Command<'_>>
     ensures { option_map command_view result ≡ command_of (map string_bytes words.now) }
 {
     match words {
-        [name, script, url] => {
-            let (script, url) = (script.as_str(), url.as_str());
-            if name.as_str() == "resolve" && !looks_dashed(script) && !looks_dashed(url) {
-                Some(ResolveWords { script, url })
-            } else {
-                None
-            }
-        }
+        [name, script] => read_check(name.as_str(), script.as_str()),
+        [name, script, url] => read_resolve(name.as_str(), script.as_str(), url.as_str()),
         _ => None,
+    }
+}
+
+fn read_check<'a>(name: &'a str, script: &'a str) -> Option<Command<'a>>
+    ensures { option_map command_view result ≡ command_of (name.now ∷ script.now ∷ []) }
+{
+    if name == "check" && !looks_dashed(script) {
+        Some(Command::Check { script })
+    } else {
+        None
+    }
+}
+
+fn read_resolve<'a>(name: &'a str, script: &'a str, url: &'a str) -> Option<Command<'a>>
+    ensures { option_map command_view result ≡ command_of (name.now ∷ script.now ∷ url.now ∷ []) }
+{
+    if name == "resolve" && !looks_dashed(script) && !looks_dashed(url) {
+        Some(Command::Resolve { script, url })
+    } else {
+        None
     }
 }

@@ -3,7 +3,7 @@ use Rattle.pac_command.specs.Resolve.{no_talks}
 use Rattle.pac_command.proofs.resolve.resolve_file.Goals as goal
 
 pub returns-in-Ok : goal.returns-in-Ok
-returns-in-Ok g c = λ o. rw c.in-Ok.ensures (c.resolve_url.ensures o)
+returns-in-Ok g c = λ o. rw (← c.in-Ok.ensures.text) (c.resolve_source.ensures o)
 
-pub returns-in-Err-Memory : goal.returns-in-Err-Memory
-returns-in-Err-Memory g c = λ o. gives_up no_talks _ _
+pub returns-in-Err : goal.returns-in-Err
+returns-in-Err g c = λ o. gives_up no_talks _ _

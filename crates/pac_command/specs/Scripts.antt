@@ -1,0 +1,27 @@
+-- What a command says of a script that isn't read.
+use Rattle.std.specs.Prelude.{ℕ, List, ◌++◌, ◌∷◌, codes}
+use Rattle.std.specs.Fmt.{decimal}
+use Rattle.js_tree.specs.declared.place.Place.{Place}
+use Rattle.js_tree.specs.declared.refusal.ReadKind.{ReadKind}
+use Rattle.js_tree.specs.declared.refusal.ReadKind.TheVariants as kind
+use Rattle.js_grammar.specs.Reading.{Refusal}
+use Rattle.pac_plan.specs.Plan.{Answer, line}
+use Rattle.pac_plan.specs.declared.status.Status.TheVariants as status
+
+abbrev pub refused : List ℕ → Answer
+refused what = record { status = status.Refused; text = line (codes "refused " ++ what) }
+
+abbrev pub kind_name : ReadKind → List ℕ
+kind_name kind.BadToken = codes "BadToken"
+kind_name kind.Unexpected = codes "Unexpected"
+kind_name kind.TooDeep = codes "TooDeep"
+kind_name kind.FractionLiteral = codes "FractionLiteral"
+kind_name kind.Unsupported = codes "Unsupported"
+
+-- line, a colon (58) and column
+abbrev pub place_text : Place → List ℕ
+place_text place = decimal place.line ++ 58 ∷ decimal place.column
+
+-- the place of the first refusal, a blank (32) and its name
+abbrev pub refused_script : Refusal → Answer
+refused_script refusal = refused (codes "script " ++ (place_text refusal.1 ++ 32 ∷ kind_name refusal.0))

@@ -1,0 +1,52 @@
+// `check`: a script as it is printed.
+ghost use Rattle.std.specs.Prelude.{◌≤◌, length, Ok};
+ghost use Rattle.utf16_text.specs.Decode.{decoded_units};
+ghost use Rattle.js_grammar.specs.Statements.{script_of_text};
+ghost use Rattle.pac_plan.specs.Plan.{Outside};
+ghost use Rattle.pac_plan.specs.Follows.{Follows, IsUnlessMemory};
+ghost use Rattle.pac_command.specs.Resolve.{no_talks};
+ghost use Rattle.pac_command.specs.Check.{check_plan, checked};
+ghost use Rattle.pac_command.specs.AnswerView.{made};
+
+use crate::Status;
+use crate::answer::{Answer, not_read, refused_script};
+use crate::script::{FILE_LIMIT, decoded};
+use js_parser::read_script;
+use js_printer::print;
+use js_tree::{ReadAnswer, Script};
+use pac_ports::Files;
+use std::alloc::Global;
+use utf16_text::Memory;
+
+/// Reads the script and prints it.
+pub(crate) fn check<F: Files>(alloc: Global, script: &str, files: &mut F) -> Result<Answer, Memory>
+    ensures { (o : Outside) → Follows no_talks (check_plan script.now)
+        (record o { files = F.state files.old }) (record o { files = F.state files.new }) (made result) }
+{
+    match files.read_all(alloc, script, FILE_LIMIT) {
+        Ok(bytes) => check_file(alloc, &bytes),
+        Err(why) => not_read(alloc, "script", why),
+    }
+}
+
+fn check_file(alloc: Global, bytes: &[u8]) -> Result<Answer, Memory>
+    requires { length bytes.now ≤ 1048576 }
+    ensures { IsUnlessMemory (checked (script_of_text (decoded_units bytes.now))) (made result) }
+{
+    let source = decoded(alloc, bytes)?;
+    match read_script(alloc, &source) {
+        Ok(script) => printed(alloc, &script),
+        Err(ReadAnswer::Refused(kind, place)) => refused_script(alloc, kind, place),
+        Err(ReadAnswer::Memory) => Err(Memory),
+    }
+}
+
+fn printed(alloc: Global, script: &Script) -> Result<Answer, Memory>
+    ensures { IsUnlessMemory (checked (Ok script.now)) (made result) }
+{
+    let text = print(alloc, script)?;
+    Ok(Answer {
+        status: Status::Good,
+        text,
+    })
+}
