@@ -225,7 +225,7 @@ fn statements_are_read(rt: HostRuntime) -> Result<(), Fail> {
 }
 
 #[test]
-fn refusals_stand_at_their_places(rt: HostRuntime) -> Result<(), Fail> {
+fn tokens_and_expressions_are_refused(rt: HostRuntime) -> Result<(), Fail> {
     let cases = [
         // A refusal of a token stands before all others.
         ("return 1.5", "FractionLiteral at 1:8"),
@@ -256,6 +256,17 @@ fn refusals_stand_at_their_places(rt: HostRuntime) -> Result<(), Fail> {
         ("a ? b, c : d", "Unexpected at 1:6"),
         ("new", "Unexpected at 1:4"),
         ("a = else", "Unexpected at 1:5"),
+    ];
+    for (source, wanted) in cases {
+        let line = read(&rt, rt.alloc(), source)?;
+        assert_eq!(rt; line.as_str(), wanted, "of {source}");
+    }
+    Ok(())
+}
+
+#[test]
+fn statements_are_refused(rt: HostRuntime) -> Result<(), Fail> {
+    let cases = [
         ("function (a) { }", "Unexpected at 1:10"),
         ("{ function () { } }", "Unexpected at 1:12"),
         ("function f(a, ) { }", "Unexpected at 1:15"),
@@ -295,6 +306,17 @@ fn refusals_stand_at_their_places(rt: HostRuntime) -> Result<(), Fail> {
         // `throw` at a line's end.
         ("throw\na", "Unexpected at 2:1"),
         ("throw", "Unexpected at 1:6"),
+    ];
+    for (source, wanted) in cases {
+        let line = read(&rt, rt.alloc(), source)?;
+        assert_eq!(rt; line.as_str(), wanted, "of {source}");
+    }
+    Ok(())
+}
+
+#[test]
+fn targets_and_other_forms_are_refused(rt: HostRuntime) -> Result<(), Fail> {
+    let cases = [
         // Targets: at the operator, before what stands behind it is read.
         ("1 = class", "Unexpected at 1:3"),
         ("a() = b", "Unexpected at 1:5"),
