@@ -14,7 +14,8 @@ mod units;
 mod words;
 
 pub use lexer::lex;
-pub use words::keyword_of;
+pub use units::place_after;
+pub use words::{is_spelled, keyword_of};
 
 #[cfg(test)]
 mod tests;

@@ -150,7 +150,7 @@ pub fn has_break(units: &[u16]) -> bool
     units.iter().any(|unit| is_line_terminator(*unit))
 }
 
-/// The place after these units.
+/// The place after these units, of which the first stands at this place: a line's end begins the next line.
 pub fn place_after(place: Place, units: &[u16]) -> Place
     requires line { place.line + length units.now < 2 ^ 32 }
     requires column { place.column + length units.now < 2 ^ 32 }

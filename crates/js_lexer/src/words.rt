@@ -88,7 +88,7 @@ fn spelling(keyword: Keyword) -> &'static str
 }
 
 /// Whether the units are those of an ASCII text.
-fn is_spelled(units: &[u16], ascii: &str) -> bool
+pub fn is_spelled(units: &[u16], ascii: &str) -> bool
     ensures { result ≡ spec.same units.now ascii.now }
 {
     let mut left = units;

@@ -1,5 +1,5 @@
-//! What the parser of scripts reads and makes without recursion: what comes next, operators by their tokens, names and signs
-//! that must stand somewhere, and nodes from their parts.
+//! What the parser of scripts reads and makes without nested parts: what comes next, operators by their tokens, names and
+//! signs that must stand somewhere, nodes from their parts; and rows of parts, whatever reads a part.
 //!
 //! Each function gives what js_grammar says of it. It stands on js_lexer, js_grammar and js_tree, and js_parser alone uses it.
 #![tactic(auto)]
@@ -8,9 +8,8 @@ mod around;
 mod lookahead;
 mod nodes;
 mod operators;
-mod place;
 mod reading;
-mod words;
+mod turns;
 
 pub use around::{at_top, in_function, in_loop, in_switch, inside};
 pub use lookahead::{
@@ -24,8 +23,8 @@ pub use nodes::{
     with_default,
 };
 pub use operators::{is_target, next_assign, next_at_level, next_postfix, next_unary, next_update};
-pub use place::end_of;
 pub use reading::{
     Read, alone, broken, continued, expect, expect_while, next_name, place_at, read_name,
     read_parameters, read_semicolon, read_word, refused,
 };
+pub use turns::row;

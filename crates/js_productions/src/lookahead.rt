@@ -4,9 +4,8 @@ ghost use Rattle.js_grammar.specs.Readers.{rest_of, next_sign, next_keyword, is_
 ghost use Rattle.js_grammar.specs.Expressions.{refused_word, is_clause_word, closes, next_name, is_accessor_word, is_accessor, has_name};
 ghost use Rattle.js_grammar.specs.Statements.{ends, semicolon_if, begins_line};
 
-use crate::words::is_spelled;
 use js_grammar::Keyword;
-use js_lexer::keyword_of;
+use js_lexer::{is_spelled, keyword_of};
 use js_tree::{ReadKind, Sign, Token, TokenKind};
 
 /// The tokens behind the first.

@@ -11,6 +11,7 @@ ghost use Rattle.js_grammar.specs.Statements.{alone, alone_if, while_by};
 
 use crate::lookahead::{is_sign, next_keyword, next_sign, rest_of};
 use crate::nodes::unbound;
+use crate::turns::row;
 use js_grammar::{Around, Keyword, Turn};
 use js_lexer::keyword_of;
 use js_tree::{
@@ -214,28 +215,6 @@ fn a_parameter<'a>(alloc: Global, end: Place, tokens: &'a [Token]) -> Read<'a, T
     }
 }
 
-fn parameter_row<'a>(alloc: Global, end: Place, tokens: &'a [Token]) -> Read<'a, ParameterList>
-    ensures gives { Gives (λ x. (x.0, x.1.now)) result (row (spec.a_parameter end) tokens.now) }
-    ensures no_longer { IfOk result (λ x. length x.1.now ≤ length tokens.now) }
-{
-    let mut all = ParameterList::new(alloc);
-    let mut rest = tokens;
-    loop {
-        let (turn, after) = a_parameter(alloc, end, rest)?;
-        match turn {
-            Turn::More(x) => {
-                all.push(alloc, x)?;
-                rest = after;
-            }
-            Turn::Last(x) => {
-                all.push(alloc, x)?;
-                return Ok((all, after));
-            }
-            Turn::End => return Ok((all, after)),
-        }
-    }
-}
-
 /// The parameters of a function, behind `(`.
 #[tactic(auto, unfolding(js_grammar::specs::Readers::parameters))]
 pub fn read_parameters<'a>(
@@ -248,6 +227,6 @@ pub fn read_parameters<'a>(
 {
     match next_sign(tokens) {
         Some(Sign::RightParenthesis) => Ok((ParameterList::new(alloc), rest_of(tokens))),
-        _ => parameter_row(alloc, end, tokens),
+        _ => row(alloc, tokens, |rest| a_parameter(alloc, end, rest)),
     }
 }
