@@ -1,58 +1,50 @@
--- What has room for one more nested part reads its parts with room for one less.
-use Rattle.std.proofs.Common.{◌≡◌, ℕ, suc, ◌-◌, ◌<◌, List, Result, Err, refl, sym, ap, subst, arith}
+-- What has room for one more nested part reads it with room for one less.
+use Rattle.std.proofs.Common.{◌≡◌, ℕ, suc, ◌-◌, ◌<◌, List, Err, refl, sym, ap, ◌∙◌, subst, arith}
 use Rattle.js_tree.specs.declared.place.Place.{Place}
 use Rattle.js_tree.specs.declared.token.Token.{Token}
-use Rattle.js_tree.specs.declared.refusal.ReadAnswer.{ReadAnswer}
 use Rattle.js_tree.specs.declared.refusal.ReadKind.TheVariants.{TooDeep}
-use Rattle.js_tree.specs.Tree.{ExpressionTree, StatementTree}
-use Rattle.js_grammar.specs.declared.form.Form.{Form}
-use Rattle.js_grammar.specs.declared.form.LeftSide.TheVariants as side
-use Rattle.js_grammar.specs.declared.around.Around.{Around}
-use Rattle.js_grammar.specs.Reading.{Gives}
 use Rattle.js_grammar.specs.Readers.{place_at}
-use Rattle.js_grammar.specs.Expressions.{assignment, unary, suffixed}
-use Rattle.js_grammar.specs.Statements.{deeper, statement, block}
+use Rattle.js_grammar.specs.Statements.{deeper}
+use Rattle.js_parser.specs.declared.nested.ExpressionPart.{ExpressionPart}
+use Rattle.js_parser.specs.declared.nested.ExpressionPart.TheVariants.{Value, Operand, Callee}
+use Rattle.js_parser.specs.declared.nested.StatementPart.{StatementPart}
+use Rattle.js_parser.specs.declared.nested.StatementPart.TheVariants.{Statement, Block}
+use Rattle.js_parser.specs.Nested.{nested_expression, nested_statement, expression_in, statement_in}
 
 module _ (end : Place) (n : ℕ) where
-  pub value_zero : (form : Form) (ts : List Token) → n ≡ 0 → (deeper end n).value form ts ≡ Err (TooDeep, place_at end ts)
-  unfolding deeper
-  value_zero form ts e = ap (λ m. (deeper end m).value form ts) e
-
-  pub operand_zero : (ts : List Token) → n ≡ 0 → (deeper end n).operand ts ≡ Err (TooDeep, place_at end ts)
-  unfolding deeper
-  operand_zero ts e = ap (λ m. (deeper end m).operand ts) e
-
-  pub callee_zero : (ts : List Token) → n ≡ 0 → (deeper end n).callee ts ≡ Err (TooDeep, place_at end ts)
-  unfolding deeper
-  callee_zero ts e = ap (λ m. (deeper end m).callee ts) e
-
-  pub statement_zero : (around : Around) (ts : List Token) → n ≡ 0 → (deeper end n).statement around ts ≡ Err (TooDeep, place_at end ts)
-  unfolding deeper
-  statement_zero around ts e = ap (λ m. (deeper end m).statement around ts) e
-
-  pub block_zero : (around : Around) (ts : List Token) → n ≡ 0 → (deeper end n).block around ts ≡ Err (TooDeep, place_at end ts)
-  unfolding deeper
-  block_zero around ts e = ap (λ m. (deeper end m).block around ts) e
-
   one_more : 0 < n → n ≡ suc (n - 1)
   one_more h = omega arith
 
-  pub value_gives : {X : Type 0} (form : Form) (view : X → ExpressionTree × List Token) (r : Result X ReadAnswer) (ts : List Token) → 0 < n → Gives view r (assignment end (deeper end (n - 1)) form ts) → Gives view r ((deeper end n).value form ts)
+  no_expression : (part : ExpressionPart) (ts : List Token) → nested_expression (deeper end 0) part ts ≡ Err (TooDeep, place_at end ts)
   unfolding deeper
-  value_gives form view r ts h g = subst (λ m. Gives view r ((deeper end m).value form ts)) (sym (one_more h)) g
+  no_expression (Value form) ts = refl
+  no_expression Operand ts = refl
+  no_expression Callee ts = refl
 
-  pub operand_gives : {X : Type 0} (view : X → ExpressionTree × List Token) (r : Result X ReadAnswer) (ts : List Token) → 0 < n → Gives view r (unary end (deeper end (n - 1)) ts) → Gives view r ((deeper end n).operand ts)
+  no_statement : (part : StatementPart) (ts : List Token) → nested_statement (deeper end 0) part ts ≡ Err (TooDeep, place_at end ts)
   unfolding deeper
-  operand_gives view r ts h g = subst (λ m. Gives view r ((deeper end m).operand ts)) (sym (one_more h)) g
+  no_statement (Statement around) ts = refl
+  no_statement (Block around) ts = refl
 
-  pub callee_gives : {X : Type 0} (view : X → ExpressionTree × List Token) (r : Result X ReadAnswer) (ts : List Token) → 0 < n → Gives view r (suffixed end (deeper end (n - 1)) side.Member ts) → Gives view r ((deeper end n).callee ts)
-  unfolding deeper
-  callee_gives view r ts h g = subst (λ m. Gives view r ((deeper end m).callee ts)) (sym (one_more h)) g
+  pub expression_too_deep : (part : ExpressionPart) (ts : List Token) → n ≡ 0 → nested_expression (deeper end n) part ts ≡ Err (TooDeep, place_at end ts)
+  expression_too_deep part ts e = subst (λ m. nested_expression (deeper end m) part ts ≡ Err (TooDeep, place_at end ts)) (sym e) (no_expression part ts)
 
-  pub statement_gives : {X : Type 0} (around : Around) (view : X → StatementTree × List Token) (r : Result X ReadAnswer) (ts : List Token) → 0 < n → Gives view r (statement end (deeper end (n - 1)) around ts) → Gives view r ((deeper end n).statement around ts)
-  unfolding deeper
-  statement_gives around view r ts h g = subst (λ m. Gives view r ((deeper end m).statement around ts)) (sym (one_more h)) g
+  pub statement_too_deep : (part : StatementPart) (ts : List Token) → n ≡ 0 → nested_statement (deeper end n) part ts ≡ Err (TooDeep, place_at end ts)
+  statement_too_deep part ts e = subst (λ m. nested_statement (deeper end m) part ts ≡ Err (TooDeep, place_at end ts)) (sym e) (no_statement part ts)
 
-  pub block_gives : {X : Type 0} (around : Around) (view : X → StatementTree × List Token) (r : Result X ReadAnswer) (ts : List Token) → 0 < n → Gives view r (block end (deeper end (n - 1)) around ts) → Gives view r ((deeper end n).block around ts)
+  is_expression : (m : ℕ) (part : ExpressionPart) (ts : List Token) → nested_expression (deeper end (suc m)) part ts ≡ expression_in end (deeper end m) part ts
   unfolding deeper
-  block_gives around view r ts h g = subst (λ m. Gives view r ((deeper end m).block around ts)) (sym (one_more h)) g
+  is_expression m (Value form) ts = refl
+  is_expression m Operand ts = refl
+  is_expression m Callee ts = refl
+
+  is_statement : (m : ℕ) (part : StatementPart) (ts : List Token) → nested_statement (deeper end (suc m)) part ts ≡ statement_in end (deeper end m) part ts
+  unfolding deeper
+  is_statement m (Statement around) ts = refl
+  is_statement m (Block around) ts = refl
+
+  pub expression_deeper : (part : ExpressionPart) (ts : List Token) → 0 < n → nested_expression (deeper end n) part ts ≡ expression_in end (deeper end (n - 1)) part ts
+  expression_deeper part ts h = ap (λ m. nested_expression (deeper end m) part ts) (one_more h) ∙ is_expression (n - 1) part ts
+
+  pub statement_deeper : (part : StatementPart) (ts : List Token) → 0 < n → nested_statement (deeper end n) part ts ≡ statement_in end (deeper end (n - 1)) part ts
+  statement_deeper part ts h = ap (λ m. nested_statement (deeper end m) part ts) (one_more h) ∙ is_statement (n - 1) part ts

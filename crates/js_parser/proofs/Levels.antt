@@ -1,5 +1,5 @@
 -- The binary levels one after another, the strongest first.
-use Rattle.std.proofs.Common.{◌≡◌, ℕ, zero, suc, ◌+◌, ◌-◌, ◌<◌, ◌≤◌, List, Result, Ok, Err, refl, sym, subst, arith}
+use Rattle.std.proofs.Common.{◌≡◌, ℕ, zero, suc, ◌+◌, ◌-◌, ◌<◌, List, Result, Ok, Err, refl, subst, arith}
 use Rattle.js_tree.specs.declared.place.Place.{Place}
 use Rattle.js_tree.specs.declared.token.Token.{Token}
 use Rattle.js_tree.specs.declared.refusal.ReadAnswer.{ReadAnswer}
@@ -8,7 +8,7 @@ use Rattle.js_tree.specs.declared.expression.Operand.{Operand}
 use Rattle.js_tree.specs.Tree.{ExpressionTree}
 use Rattle.js_grammar.specs.declared.form.Form.{Form}
 use Rattle.js_grammar.specs.Reading.{Refusal, Fails}
-use Rattle.js_grammar.specs.Readers.{Reader, row, place_at}
+use Rattle.js_grammar.specs.Readers.{row, place_at}
 use Rattle.js_grammar.specs.Expressions.{Deeper, unary, an_operand, chained, chain, level}
 
 module _ (end : Place) (d : Deeper) (form : Form) (ts : List Token) where

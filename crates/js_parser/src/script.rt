@@ -1,11 +1,14 @@
 // Whole scripts (ECMA-262 5.1, section 14).
-ghost use Rattle.std.specs.Prelude.{◌≡◌, ◌≤◌, length};
+ghost use Rattle.std.specs.Prelude.{◌≡◌, ◌<◌, ◌≤◌, ◌-◌, length, IfOk};
 ghost use Rattle.js_grammar.specs.Reading.{Gives};
-ghost use Rattle.js_grammar.specs.Statements.{script_within, script_of_text};
+ghost use Rattle.js_grammar.specs.Statements.{deeper, script_within, script_of_text};
+ghost use Rattle.js_parser.specs.Nested.{expression_in, statement_in};
 
+use crate::nested::{ExpressionPart, StatementPart};
 use crate::parser::Parser;
-use js_lexer::lex;
-use js_productions::{at_top, end_of};
+use crate::root::{read_expression, read_statement};
+use js_lexer::{lex, place_after};
+use js_productions::at_top;
 use js_tree::{Place, ReadAnswer, ReadKind, Script, StatementList, Token};
 use std::alloc::Global;
 use utf16_text::Text;
@@ -24,8 +27,22 @@ pub fn read_tokens(
 ) -> Result<StatementList, ReadAnswer>
     ensures { Gives (λ x. x) result (script_within end room tokens.now) }
 {
-    let parser = Parser { alloc, end };
-    let (body, rest) = parser.statements(at_top(), room, tokens)?;
+    let parser = Parser::new(
+        alloc,
+        end,
+        room,
+        |part: ExpressionPart, tokens: &[Token]|
+            requires { 0 < room }
+            ensures gives { Gives (λ x. (x.0, x.1.now)) result (expression_in end (deeper end (room - 1)) part tokens.now) }
+            ensures shorter { IfOk result (λ x. length x.1.now < length tokens.now) }
+        { read_expression(alloc, end, room - 1, part, tokens) },
+        |part: StatementPart, tokens: &[Token]|
+            requires { 0 < room }
+            ensures gives { Gives (λ x. (x.0, x.1.now)) result (statement_in end (deeper end (room - 1)) part tokens.now) }
+            ensures shorter { IfOk result (λ x. length x.1.now < length tokens.now) }
+        { read_statement(alloc, end, room - 1, part, tokens) },
+    );
+    let (body, rest) = parser.statements(at_top(), tokens)?;
     match rest {
         [] => Ok(body),
         [token, ..] => Err(ReadAnswer::Refused(ReadKind::Unexpected, token.place)),
@@ -39,7 +56,7 @@ pub fn read_script(alloc: Global, source: &Text) -> Result<Script, ReadAnswer>
     ensures { Gives (λ script. script) result (script_of_text source.now) }
 {
     let tokens = lex(alloc, source)?;
-    let end = end_of(source.units());
+    let end = place_after(Place { line: 1, column: 1 }, source.units());
     let body = read_tokens(alloc, tokens.as_slice(), end, NESTING)?;
     // So short a text spells fewer nodes and names than a script can have.
     Script::new(body).ok_or(ReadAnswer::Memory)

@@ -6,8 +6,10 @@ ghost use Rattle.js_grammar.specs.Readers.{row, next_keyword, Shortens};
 ghost use Rattle.js_grammar.specs.Expressions.{a_statement};
 ghost use Rattle.js_grammar.specs.Statements as spec;
 ghost use Rattle.js_grammar.specs.Statements.{deeper};
+ghost use Rattle.js_parser.specs.Nested.{ReadsNested};
 ghost use Rattle.js_productions.specs.Starts.{start_or_none};
 
+use crate::nested::{ExpressionPart, StatementPart};
 use crate::parser::Parser;
 use js_grammar::{Around, Form, Keyword, Turn};
 use js_lexer::keyword_of;
@@ -15,8 +17,8 @@ use js_productions::{
     Read, alone, before_in, begins_line, broken, closes, continued, declare_node, do_node, ends,
     evaluate_node, expect, expect_while, for_in_node, for_node, has_part, if_node, in_loop,
     in_switch, inside, is_sign, is_target, next_keyword, next_sign, place_at, read_name,
-    read_semicolon, refused, rest_of, return_node, semicolon_if, switch_node, throw_node, try_node,
-    while_node, with_default,
+    read_semicolon, refused, rest_of, return_node, row, semicolon_if, switch_node, throw_node,
+    try_node, while_node, with_default,
 };
 use js_tree::{
     Branch, BranchList, Catch, Clause, ClauseList, Declared, DeclaredList, Expression, ForStart,
@@ -24,137 +26,83 @@ use js_tree::{
     TokenKind,
 };
 
-impl Parser {
-    /// A statement. It counts as nested.
-    #[tactic(auto, unfolding(js_grammar::specs::Statements::deeper))]
-    #[cycle(parser)]
-    fn statement<'a>(self, around: Around, room: u32, tokens: &'a [Token]) -> Read<'a, Statement>
-        ensures gives { Gives (λ x. (x.0, x.1.now)) result ((deeper self.end room).statement around tokens.now) }
-        ensures shorter { IfOk result (λ x. length x.1.now < length tokens.now) }
-    {
-        if room == 0 {
-            return Err(refused(self.end, ReadKind::TooDeep, tokens));
-        }
-        self.statement_in(around, room - 1, tokens)
-    }
-
-    /// A block of a `try`. It counts as nested.
-    #[tactic(auto, unfolding(js_grammar::specs::Statements::deeper))]
-    #[cycle(parser)]
-    fn block<'a>(self, around: Around, room: u32, tokens: &'a [Token]) -> Read<'a, Statement>
-        ensures gives { Gives (λ x. (x.0, x.1.now)) result ((deeper self.end room).block around tokens.now) }
-        ensures shorter { IfOk result (λ x. length x.1.now < length tokens.now) }
-    {
-        if room == 0 {
-            return Err(refused(self.end, ReadKind::TooDeep, tokens));
-        }
-        self.block_in(around, room - 1, tokens)
-    }
-
+impl<
+    E: Fn(ExpressionPart, &[Token]) -> Read<'_, Expression>,
+    S: Fn(StatementPart, &[Token]) -> Read<'_, Statement>,
+> Parser<E, S> {
     #[tactic(auto, unfolding(js_grammar::specs::Expressions::a_statement))]
-    #[cycle(parser)]
-    fn a_statement<'a>(
-        self,
-        around: Around,
-        room: u32,
-        tokens: &'a [Token],
-    ) -> Read<'a, Turn<Statement>>
-        ensures gives { Gives (λ x. (x.0, x.1.now)) result (a_statement (deeper self.end room) around tokens.now) }
+    fn a_statement<'a>(&self, around: Around, tokens: &'a [Token]) -> Read<'a, Turn<Statement>>
+        requires reads { ReadsNested E.Fn S.Fn self.now }
+        ensures gives { Gives (λ x. (x.0, x.1.now)) result (a_statement (deeper self.now.end self.now.room) around tokens.now) }
         ensures shortens { IfOk result (λ x. Shortens x.0 tokens.now x.1.now) }
     {
         if closes(tokens) {
             return Ok((Turn::End, tokens));
         }
-        let (one, rest) = self.statement(around, room, tokens)?;
+        let (one, rest) = self.statement(around, tokens)?;
         Ok((Turn::More(one), rest))
     }
 
     /// Statements up to what ends them.
-    #[cycle(parser)]
-    pub fn statements<'a>(
-        self,
-        around: Around,
-        room: u32,
-        tokens: &'a [Token],
-    ) -> Read<'a, StatementList>
-        ensures gives { Gives (λ x. (x.0, x.1.now)) result (row (a_statement (deeper self.end room) around) tokens.now) }
+    pub fn statements<'a>(&self, around: Around, tokens: &'a [Token]) -> Read<'a, StatementList>
+        requires reads { ReadsNested E.Fn S.Fn self.now }
+        ensures gives { Gives (λ x. (x.0, x.1.now)) result (row (a_statement (deeper self.now.end self.now.room) around) tokens.now) }
         ensures no_longer { IfOk result (λ x. length x.1.now ≤ length tokens.now) }
     {
-        let mut all = StatementList::new(self.alloc);
-        let mut rest = tokens;
-        loop {
-            let (turn, after) = self.a_statement(around, room, rest)?;
-            match turn {
-                Turn::More(x) => {
-                    all.push(self.alloc, x)?;
-                    rest = after;
-                }
-                Turn::Last(x) => {
-                    all.push(self.alloc, x)?;
-                    return Ok((all, after));
-                }
-                Turn::End => return Ok((all, after)),
-            }
-        }
+        row(self.alloc, tokens, |rest| self.a_statement(around, rest))
     }
 
     /// An expression as a statement.
     #[tactic(auto, unfolding(js_grammar::specs::Statements::evaluated))]
-    #[cycle(parser)]
-    fn evaluated<'a>(self, room: u32, tokens: &'a [Token]) -> Read<'a, Statement>
-        ensures gives { Gives (λ x. (x.0, x.1.now)) result (spec.evaluated self.end (deeper self.end room) tokens.now) }
+    fn evaluated<'a>(&self, tokens: &'a [Token]) -> Read<'a, Statement>
+        requires reads { ReadsNested E.Fn S.Fn self.now }
+        ensures gives { Gives (λ x. (x.0, x.1.now)) result (spec.evaluated self.now.end (deeper self.now.end self.now.room) tokens.now) }
         ensures shorter { IfOk result (λ x. length x.1.now < length tokens.now) }
     {
         let place = place_at(self.end, tokens);
-        let (value, rest) = self.expression(Form::Plain, room, tokens)?;
+        let (value, rest) = self.expression(Form::Plain, tokens)?;
         let rest = read_semicolon(self.end, rest)?;
         Ok((evaluate_node(self.alloc, place, value)?, rest))
     }
 
     /// A block behind its `{`.
     #[tactic(auto, unfolding(js_grammar::specs::Statements::block_from))]
-    #[cycle(parser)]
     fn block_from<'a>(
-        self,
+        &self,
         around: Around,
         place: Place,
-        room: u32,
         tokens: &'a [Token],
     ) -> Read<'a, Statement>
-        ensures gives { Gives (λ x. (x.0, x.1.now)) result (spec.block_from self.end (deeper self.end room) around place tokens.now) }
+        requires reads { ReadsNested E.Fn S.Fn self.now }
+        ensures gives { Gives (λ x. (x.0, x.1.now)) result (spec.block_from self.now.end (deeper self.now.end self.now.room) around place tokens.now) }
         ensures shorter { IfOk result (λ x. length x.1.now < length tokens.now) }
     {
-        let (body, rest) = self.statements(inside(around), room, tokens)?;
+        let (body, rest) = self.statements(inside(around), tokens)?;
         let rest = expect(self.end, Sign::RightBrace, rest)?;
         let node = StatementNode::Block(body);
         Ok((Statement { place, node }, rest))
     }
 
     #[tactic(auto, unfolding(js_grammar::specs::Statements::block))]
-    #[cycle(parser)]
-    fn block_in<'a>(self, around: Around, room: u32, tokens: &'a [Token]) -> Read<'a, Statement>
-        ensures gives { Gives (λ x. (x.0, x.1.now)) result (spec.block self.end (deeper self.end room) around tokens.now) }
+    pub fn block_in<'a>(&self, around: Around, tokens: &'a [Token]) -> Read<'a, Statement>
+        requires reads { ReadsNested E.Fn S.Fn self.now }
+        ensures gives { Gives (λ x. (x.0, x.1.now)) result (spec.block self.now.end (deeper self.now.end self.now.room) around tokens.now) }
         ensures shorter { IfOk result (λ x. length x.1.now < length tokens.now) }
     {
         let place = place_at(self.end, tokens);
         let rest = expect(self.end, Sign::LeftBrace, tokens)?;
-        self.block_from(around, place, room, rest)
+        self.block_from(around, place, rest)
     }
 
     #[tactic(auto, unfolding(js_grammar::specs::Statements::first_value))]
-    #[cycle(parser)]
-    fn first_value<'a>(
-        self,
-        form: Form,
-        room: u32,
-        tokens: &'a [Token],
-    ) -> Read<'a, Option<Expression>>
-        ensures gives { Gives (λ x. (x.0, x.1.now)) result (spec.first_value self.end (deeper self.end room) form tokens.now) }
+    fn first_value<'a>(&self, form: Form, tokens: &'a [Token]) -> Read<'a, Option<Expression>>
+        requires reads { ReadsNested E.Fn S.Fn self.now }
+        ensures gives { Gives (λ x. (x.0, x.1.now)) result (spec.first_value self.now.end (deeper self.now.end self.now.room) form tokens.now) }
         ensures no_longer { IfOk result (λ x. length x.1.now ≤ length tokens.now) }
     {
         match next_sign(tokens) {
             Some(Sign::Assign) => {
-                let (value, rest) = self.value(form, room, rest_of(tokens))?;
+                let (value, rest) = self.value(form, rest_of(tokens))?;
                 Ok((Some(value), rest))
             }
             _ => Ok((None, tokens)),
@@ -163,13 +111,13 @@ impl Parser {
 
     /// A declared name, and whether a comma stands behind it.
     #[tactic(auto, unfolding(js_grammar::specs::Statements::a_declared))]
-    #[cycle(parser)]
-    fn a_declared<'a>(self, form: Form, room: u32, tokens: &'a [Token]) -> Read<'a, Turn<Declared>>
-        ensures gives { Gives (λ x. (x.0, x.1.now)) result (spec.a_declared self.end (deeper self.end room) form tokens.now) }
+    fn a_declared<'a>(&self, form: Form, tokens: &'a [Token]) -> Read<'a, Turn<Declared>>
+        requires reads { ReadsNested E.Fn S.Fn self.now }
+        ensures gives { Gives (λ x. (x.0, x.1.now)) result (spec.a_declared self.now.end (deeper self.now.end self.now.room) form tokens.now) }
         ensures shortens { IfOk result (λ x. Shortens x.0 tokens.now x.1.now) }
     {
         let (name, rest) = read_name(self.alloc, self.end, tokens)?;
-        let (value, rest) = self.first_value(form, room, rest)?;
+        let (value, rest) = self.first_value(form, rest)?;
         let declared = Declared { name, value };
         match next_sign(rest) {
             Some(Sign::Comma) => Ok((Turn::More(declared), rest_of(rest))),
@@ -177,37 +125,22 @@ impl Parser {
         }
     }
 
-    #[cycle(parser)]
-    fn declared<'a>(self, form: Form, room: u32, tokens: &'a [Token]) -> Read<'a, DeclaredList>
-        ensures gives { Gives (λ x. (x.0, x.1.now)) result (row (spec.a_declared self.end (deeper self.end room) form) tokens.now) }
+    fn declared<'a>(&self, form: Form, tokens: &'a [Token]) -> Read<'a, DeclaredList>
+        requires reads { ReadsNested E.Fn S.Fn self.now }
+        ensures gives { Gives (λ x. (x.0, x.1.now)) result (row (spec.a_declared self.now.end (deeper self.now.end self.now.room) form) tokens.now) }
         ensures no_longer { IfOk result (λ x. length x.1.now ≤ length tokens.now) }
     {
-        let mut all = DeclaredList::new(self.alloc);
-        let mut rest = tokens;
-        loop {
-            let (turn, after) = self.a_declared(form, room, rest)?;
-            match turn {
-                Turn::More(x) => {
-                    all.push(self.alloc, x)?;
-                    rest = after;
-                }
-                Turn::Last(x) => {
-                    all.push(self.alloc, x)?;
-                    return Ok((all, after));
-                }
-                Turn::End => return Ok((all, after)),
-            }
-        }
+        row(self.alloc, tokens, |rest| self.a_declared(form, rest))
     }
 
     /// `var` behind its word.
     #[tactic(auto, unfolding(js_grammar::specs::Statements::var_statement))]
-    #[cycle(parser)]
-    fn var_statement<'a>(self, place: Place, room: u32, tokens: &'a [Token]) -> Read<'a, Statement>
-        ensures gives { Gives (λ x. (x.0, x.1.now)) result (spec.var_statement self.end (deeper self.end room) place tokens.now) }
+    fn var_statement<'a>(&self, place: Place, tokens: &'a [Token]) -> Read<'a, Statement>
+        requires reads { ReadsNested E.Fn S.Fn self.now }
+        ensures gives { Gives (λ x. (x.0, x.1.now)) result (spec.var_statement self.now.end (deeper self.now.end self.now.room) place tokens.now) }
         ensures no_longer { IfOk result (λ x. length x.1.now ≤ length tokens.now) }
     {
-        let (names, rest) = self.declared(Form::Plain, room, tokens)?;
+        let (names, rest) = self.declared(Form::Plain, tokens)?;
         let rest = read_semicolon(self.end, rest)?;
         let node = StatementNode::Var(names);
         Ok((Statement { place, node }, rest))
@@ -215,24 +148,24 @@ impl Parser {
 
     /// A condition in brackets and what is done where it holds.
     #[tactic(auto, unfolding(js_grammar::specs::Statements::one_branch))]
-    #[cycle(parser)]
-    fn one_branch<'a>(self, around: Around, room: u32, tokens: &'a [Token]) -> Read<'a, Branch>
-        ensures gives { Gives (λ x. (x.0, x.1.now)) result (spec.one_branch self.end (deeper self.end room) around tokens.now) }
+    fn one_branch<'a>(&self, around: Around, tokens: &'a [Token]) -> Read<'a, Branch>
+        requires reads { ReadsNested E.Fn S.Fn self.now }
+        ensures gives { Gives (λ x. (x.0, x.1.now)) result (spec.one_branch self.now.end (deeper self.now.end self.now.room) around tokens.now) }
         ensures shorter { IfOk result (λ x. length x.1.now < length tokens.now) }
     {
-        let (condition, rest) = self.in_parentheses(room, tokens)?;
-        let (body, rest) = self.statement(inside(around), room, rest)?;
+        let (condition, rest) = self.in_parentheses(tokens)?;
+        let (body, rest) = self.statement(inside(around), rest)?;
         Ok((Branch { condition, body }, rest))
     }
 
     /// A branch, and whether `else if` stands behind it.
     #[tactic(auto, unfolding(js_grammar::specs::Statements::a_branch))]
-    #[cycle(parser)]
-    fn a_branch<'a>(self, around: Around, room: u32, tokens: &'a [Token]) -> Read<'a, Turn<Branch>>
-        ensures gives { Gives (λ x. (x.0, x.1.now)) result (spec.a_branch self.end (deeper self.end room) around tokens.now) }
+    fn a_branch<'a>(&self, around: Around, tokens: &'a [Token]) -> Read<'a, Turn<Branch>>
+        requires reads { ReadsNested E.Fn S.Fn self.now }
+        ensures gives { Gives (λ x. (x.0, x.1.now)) result (spec.a_branch self.now.end (deeper self.now.end self.now.room) around tokens.now) }
         ensures shortens { IfOk result (λ x. Shortens x.0 tokens.now x.1.now) }
     {
-        let (one, rest) = self.one_branch(around, room, tokens)?;
+        let (one, rest) = self.one_branch(around, tokens)?;
         let behind = rest_of(rest);
         match (next_keyword(rest), next_keyword(behind)) {
             (Some(Keyword::Else), Some(Keyword::If)) => Ok((Turn::More(one), rest_of(behind))),
@@ -240,44 +173,24 @@ impl Parser {
         }
     }
 
-    #[cycle(parser)]
-    fn branches<'a>(self, around: Around, room: u32, tokens: &'a [Token]) -> Read<'a, BranchList>
-        ensures gives { Gives (λ x. (x.0, x.1.now)) result (row (spec.a_branch self.end (deeper self.end room) around) tokens.now) }
+    fn branches<'a>(&self, around: Around, tokens: &'a [Token]) -> Read<'a, BranchList>
+        requires reads { ReadsNested E.Fn S.Fn self.now }
+        ensures gives { Gives (λ x. (x.0, x.1.now)) result (row (spec.a_branch self.now.end (deeper self.now.end self.now.room) around) tokens.now) }
         ensures no_longer { IfOk result (λ x. length x.1.now ≤ length tokens.now) }
     {
-        let mut all = BranchList::new(self.alloc);
-        let mut rest = tokens;
-        loop {
-            let (turn, after) = self.a_branch(around, room, rest)?;
-            match turn {
-                Turn::More(x) => {
-                    all.push(self.alloc, x)?;
-                    rest = after;
-                }
-                Turn::Last(x) => {
-                    all.push(self.alloc, x)?;
-                    return Ok((all, after));
-                }
-                Turn::End => return Ok((all, after)),
-            }
-        }
+        row(self.alloc, tokens, |rest| self.a_branch(around, rest))
     }
 
     /// What is done where no condition holds.
     #[tactic(auto, unfolding(js_grammar::specs::Statements::otherwise))]
-    #[cycle(parser)]
-    fn otherwise<'a>(
-        self,
-        around: Around,
-        room: u32,
-        tokens: &'a [Token],
-    ) -> Read<'a, Option<Statement>>
-        ensures gives { Gives (λ x. (x.0, x.1.now)) result (spec.otherwise self.end (deeper self.end room) around tokens.now) }
+    fn otherwise<'a>(&self, around: Around, tokens: &'a [Token]) -> Read<'a, Option<Statement>>
+        requires reads { ReadsNested E.Fn S.Fn self.now }
+        ensures gives { Gives (λ x. (x.0, x.1.now)) result (spec.otherwise self.now.end (deeper self.now.end self.now.room) around tokens.now) }
         ensures no_longer { IfOk result (λ x. length x.1.now ≤ length tokens.now) }
     {
         match next_keyword(tokens) {
             Some(Keyword::Else) => {
-                let (one, rest) = self.statement(inside(around), room, rest_of(tokens))?;
+                let (one, rest) = self.statement(inside(around), rest_of(tokens))?;
                 Ok((Some(one), rest))
             }
             _ => Ok((None, tokens)),
@@ -286,38 +199,36 @@ impl Parser {
 
     /// `if` behind its word.
     #[tactic(auto, unfolding(js_grammar::specs::Statements::if_statement))]
-    #[cycle(parser)]
     fn if_statement<'a>(
-        self,
+        &self,
         around: Around,
         place: Place,
-        room: u32,
         tokens: &'a [Token],
     ) -> Read<'a, Statement>
-        ensures gives { Gives (λ x. (x.0, x.1.now)) result (spec.if_statement self.end (deeper self.end room) around place tokens.now) }
+        requires reads { ReadsNested E.Fn S.Fn self.now }
+        ensures gives { Gives (λ x. (x.0, x.1.now)) result (spec.if_statement self.now.end (deeper self.now.end self.now.room) around place tokens.now) }
         ensures no_longer { IfOk result (λ x. length x.1.now ≤ length tokens.now) }
     {
-        let (branches, rest) = self.branches(around, room, tokens)?;
-        let (last, rest) = self.otherwise(around, room, rest)?;
+        let (branches, rest) = self.branches(around, tokens)?;
+        let (last, rest) = self.otherwise(around, rest)?;
         Ok((if_node(self.alloc, place, branches, last)?, rest))
     }
 
     /// `do` behind its word.
     #[tactic(auto, unfolding(js_grammar::specs::Statements::do_statement))]
-    #[cycle(parser)]
     fn do_statement<'a>(
-        self,
+        &self,
         around: Around,
         place: Place,
-        room: u32,
         tokens: &'a [Token],
     ) -> Read<'a, Statement>
-        ensures gives { Gives (λ x. (x.0, x.1.now)) result (spec.do_statement self.end (deeper self.end room) around place tokens.now) }
+        requires reads { ReadsNested E.Fn S.Fn self.now }
+        ensures gives { Gives (λ x. (x.0, x.1.now)) result (spec.do_statement self.now.end (deeper self.now.end self.now.room) around place tokens.now) }
         ensures no_longer { IfOk result (λ x. length x.1.now ≤ length tokens.now) }
     {
-        let (body, rest) = self.statement(in_loop(around), room, tokens)?;
+        let (body, rest) = self.statement(in_loop(around), tokens)?;
         let rest = expect_while(self.end, rest)?;
-        let (condition, rest) = self.in_parentheses(room, rest)?;
+        let (condition, rest) = self.in_parentheses(rest)?;
         Ok((
             do_node(self.alloc, place, body, condition)?,
             semicolon_if(rest),
@@ -326,60 +237,57 @@ impl Parser {
 
     /// `while` behind its word.
     #[tactic(auto, unfolding(js_grammar::specs::Statements::while_statement))]
-    #[cycle(parser)]
     fn while_statement<'a>(
-        self,
+        &self,
         around: Around,
         place: Place,
-        room: u32,
         tokens: &'a [Token],
     ) -> Read<'a, Statement>
-        ensures gives { Gives (λ x. (x.0, x.1.now)) result (spec.while_statement self.end (deeper self.end room) around place tokens.now) }
+        requires reads { ReadsNested E.Fn S.Fn self.now }
+        ensures gives { Gives (λ x. (x.0, x.1.now)) result (spec.while_statement self.now.end (deeper self.now.end self.now.room) around place tokens.now) }
         ensures no_longer { IfOk result (λ x. length x.1.now ≤ length tokens.now) }
     {
-        let (condition, rest) = self.in_parentheses(room, tokens)?;
-        let (body, rest) = self.statement(in_loop(around), room, rest)?;
+        let (condition, rest) = self.in_parentheses(tokens)?;
+        let (body, rest) = self.statement(in_loop(around), rest)?;
         Ok((while_node(self.alloc, place, condition, body)?, rest))
     }
 
     /// An expression of a `for` header or none, and the sign that closes it.
     #[tactic(auto, unfolding(js_grammar::specs::Statements::optional_expression))]
-    #[cycle(parser)]
     fn optional_expression<'a>(
-        self,
+        &self,
         close: Sign,
-        room: u32,
         tokens: &'a [Token],
     ) -> Read<'a, Option<Expression>>
-        ensures gives { Gives (λ x. (x.0, x.1.now)) result (spec.optional_expression self.end (deeper self.end room) close tokens.now) }
+        requires reads { ReadsNested E.Fn S.Fn self.now }
+        ensures gives { Gives (λ x. (x.0, x.1.now)) result (spec.optional_expression self.now.end (deeper self.now.end self.now.room) close tokens.now) }
         ensures no_longer { IfOk result (λ x. length x.1.now ≤ length tokens.now) }
     {
         if is_sign(close, next_sign(tokens)) {
             return Ok((None, rest_of(tokens)));
         }
-        let (value, rest) = self.expression(Form::NoIn, room, tokens)?;
+        let (value, rest) = self.expression(Form::NoIn, tokens)?;
         let rest = expect(self.end, close, rest)?;
         Ok((Some(value), rest))
     }
 
     /// A `for` from its first semicolon on.
     #[tactic(auto, unfolding(js_grammar::specs::Statements::for_from))]
-    #[cycle(parser)]
     fn for_from<'a>(
-        self,
+        &self,
         around: Around,
         place: Place,
         start: Option<ForStart>,
-        room: u32,
         tokens: &'a [Token],
     ) -> Read<'a, Statement>
-        ensures gives { Gives (λ x. (x.0, x.1.now)) result (spec.for_from self.end (deeper self.end room) around place (start_or_none start) tokens.now) }
+        requires reads { ReadsNested E.Fn S.Fn self.now }
+        ensures gives { Gives (λ x. (x.0, x.1.now)) result (spec.for_from self.now.end (deeper self.now.end self.now.room) around place (start_or_none start) tokens.now) }
         ensures no_longer { IfOk result (λ x. length x.1.now ≤ length tokens.now) }
     {
         let rest = expect(self.end, Sign::Semicolon, tokens)?;
-        let (condition, rest) = self.optional_expression(Sign::Semicolon, room, rest)?;
-        let (step, rest) = self.optional_expression(Sign::RightParenthesis, room, rest)?;
-        let (body, rest) = self.statement(in_loop(around), room, rest)?;
+        let (condition, rest) = self.optional_expression(Sign::Semicolon, rest)?;
+        let (step, rest) = self.optional_expression(Sign::RightParenthesis, rest)?;
+        let (body, rest) = self.statement(in_loop(around), rest)?;
         Ok((
             for_node(self.alloc, place, start, condition, step, body)?,
             rest,
@@ -388,128 +296,117 @@ impl Parser {
 
     /// A `for`-`in` behind its `in`.
     #[tactic(auto, unfolding(js_grammar::specs::Statements::for_in_from))]
-    #[cycle(parser)]
     fn for_in_from<'a>(
-        self,
+        &self,
         around: Around,
         place: Place,
         target: ForTarget,
-        room: u32,
         tokens: &'a [Token],
     ) -> Read<'a, Statement>
-        ensures gives { Gives (λ x. (x.0, x.1.now)) result (spec.for_in_from self.end (deeper self.end room) around place (target_of target) tokens.now) }
+        requires reads { ReadsNested E.Fn S.Fn self.now }
+        ensures gives { Gives (λ x. (x.0, x.1.now)) result (spec.for_in_from self.now.end (deeper self.now.end self.now.room) around place (target_of target) tokens.now) }
         ensures no_longer { IfOk result (λ x. length x.1.now ≤ length tokens.now) }
     {
-        let (object, rest) = self.expression(Form::NoIn, room, tokens)?;
+        let (object, rest) = self.expression(Form::NoIn, tokens)?;
         let rest = expect(self.end, Sign::RightParenthesis, rest)?;
-        let (body, rest) = self.statement(in_loop(around), room, rest)?;
+        let (body, rest) = self.statement(in_loop(around), rest)?;
         Ok((for_in_node(self.alloc, place, target, object, body)?, rest))
     }
 
     /// A `for` whose header begins with `var`, behind that word.
     #[tactic(auto, unfolding(js_grammar::specs::Statements::for_var))]
-    #[cycle(parser)]
     fn for_var<'a>(
-        self,
+        &self,
         around: Around,
         place: Place,
         var_place: Place,
-        room: u32,
         tokens: &'a [Token],
     ) -> Read<'a, Statement>
-        ensures gives { Gives (λ x. (x.0, x.1.now)) result (spec.for_var self.end (deeper self.end room) around place var_place tokens.now) }
+        requires reads { ReadsNested E.Fn S.Fn self.now }
+        ensures gives { Gives (λ x. (x.0, x.1.now)) result (spec.for_var self.now.end (deeper self.now.end self.now.room) around place var_place tokens.now) }
         ensures no_longer { IfOk result (λ x. length x.1.now ≤ length tokens.now) }
     {
-        let (names, rest) = self.declared(Form::NoIn, room, tokens)?;
+        let (names, rest) = self.declared(Form::NoIn, tokens)?;
         match before_in(next_keyword(rest), names) {
             Ok(name) => {
                 let target = ForTarget::Declared(name);
-                self.for_in_from(around, place, target, room, rest_of(rest))
+                self.for_in_from(around, place, target, rest_of(rest))
             }
             Err(names) => {
                 let start = ForStart::Var(var_place, names);
-                self.for_from(around, place, Some(start), room, rest)
+                self.for_from(around, place, Some(start), rest)
             }
         }
     }
 
     /// A `for` whose header begins with an expression.
     #[tactic(auto, unfolding(js_grammar::specs::Statements::for_value))]
-    #[cycle(parser)]
     fn for_value<'a>(
-        self,
+        &self,
         around: Around,
         place: Place,
-        room: u32,
         tokens: &'a [Token],
     ) -> Read<'a, Statement>
-        ensures gives { Gives (λ x. (x.0, x.1.now)) result (spec.for_value self.end (deeper self.end room) around place tokens.now) }
+        requires reads { ReadsNested E.Fn S.Fn self.now }
+        ensures gives { Gives (λ x. (x.0, x.1.now)) result (spec.for_value self.now.end (deeper self.now.end self.now.room) around place tokens.now) }
         ensures no_longer { IfOk result (λ x. length x.1.now ≤ length tokens.now) }
     {
-        let (value, rest) = self.expression(Form::NoIn, room, tokens)?;
+        let (value, rest) = self.expression(Form::NoIn, tokens)?;
         let Some(Keyword::In) = next_keyword(rest) else {
             let start = ForStart::Expression(value);
-            return self.for_from(around, place, Some(start), room, rest);
+            return self.for_from(around, place, Some(start), rest);
         };
         if !is_target(&value) {
             return Err(refused(self.end, ReadKind::Unexpected, rest));
         }
         let target = ForTarget::Expression(value);
-        self.for_in_from(around, place, target, room, rest_of(rest))
+        self.for_in_from(around, place, target, rest_of(rest))
     }
 
     /// A `for` whose header begins with `var` or an expression.
-    #[cycle(parser)]
-    fn for_word<'a>(
-        self,
-        around: Around,
-        place: Place,
-        room: u32,
-        tokens: &'a [Token],
-    ) -> Read<'a, Statement>
-        ensures gives { Gives (λ x. (x.0, x.1.now)) result (spec.for_word self.end (deeper self.end room) around place (next_keyword tokens.now) tokens.now) }
+    fn for_word<'a>(&self, around: Around, place: Place, tokens: &'a [Token]) -> Read<'a, Statement>
+        requires reads { ReadsNested E.Fn S.Fn self.now }
+        ensures gives { Gives (λ x. (x.0, x.1.now)) result (spec.for_word self.now.end (deeper self.now.end self.now.room) around place (next_keyword tokens.now) tokens.now) }
         ensures no_longer { IfOk result (λ x. length x.1.now ≤ length tokens.now) }
     {
         match next_keyword(tokens) {
             Some(Keyword::Var) => {
                 let var_place = place_at(self.end, tokens);
-                self.for_var(around, place, var_place, room, rest_of(tokens))
+                self.for_var(around, place, var_place, rest_of(tokens))
             }
-            _ => self.for_value(around, place, room, tokens),
+            _ => self.for_value(around, place, tokens),
         }
     }
 
     /// `for` behind its word.
     #[tactic(auto, unfolding(js_grammar::specs::Statements::for_statement))]
-    #[cycle(parser)]
     fn for_statement<'a>(
-        self,
+        &self,
         around: Around,
         place: Place,
-        room: u32,
         tokens: &'a [Token],
     ) -> Read<'a, Statement>
-        ensures gives { Gives (λ x. (x.0, x.1.now)) result (spec.for_statement self.end (deeper self.end room) around place tokens.now) }
+        requires reads { ReadsNested E.Fn S.Fn self.now }
+        ensures gives { Gives (λ x. (x.0, x.1.now)) result (spec.for_statement self.now.end (deeper self.now.end self.now.room) around place tokens.now) }
         ensures no_longer { IfOk result (λ x. length x.1.now ≤ length tokens.now) }
     {
         let rest = expect(self.end, Sign::LeftParenthesis, tokens)?;
         match next_sign(rest) {
-            Some(Sign::Semicolon) => self.for_from(around, place, None, room, rest),
-            _ => self.for_word(around, place, room, rest),
+            Some(Sign::Semicolon) => self.for_from(around, place, None, rest),
+            _ => self.for_word(around, place, rest),
         }
     }
 
     /// `return` behind its word.
     #[tactic(auto, unfolding(js_grammar::specs::Statements::return_statement))]
-    #[cycle(parser)]
     fn return_statement<'a>(
-        self,
+        &self,
         around: Around,
         place: Place,
-        room: u32,
         tokens: &'a [Token],
     ) -> Read<'a, Statement>
-        ensures gives { Gives (λ x. (x.0, x.1.now)) result (spec.return_statement self.end (deeper self.end room) around place tokens.now) }
+        requires reads { ReadsNested E.Fn S.Fn self.now }
+        ensures gives { Gives (λ x. (x.0, x.1.now)) result (spec.return_statement self.now.end (deeper self.now.end self.now.room) around place tokens.now) }
         ensures no_longer { IfOk result (λ x. length x.1.now ≤ length tokens.now) }
     {
         if !around.in_function {
@@ -519,101 +416,80 @@ impl Parser {
             let statement = return_node(self.alloc, place, None)?;
             return alone(self.end, statement, tokens);
         }
-        let (value, rest) = self.expression(Form::Plain, room, tokens)?;
+        let (value, rest) = self.expression(Form::Plain, tokens)?;
         let rest = read_semicolon(self.end, rest)?;
         Ok((return_node(self.alloc, place, Some(value))?, rest))
     }
 
     /// `throw` behind its word.
     #[tactic(auto, unfolding(js_grammar::specs::Statements::throw_statement))]
-    #[cycle(parser)]
-    fn throw_statement<'a>(
-        self,
-        place: Place,
-        room: u32,
-        tokens: &'a [Token],
-    ) -> Read<'a, Statement>
-        ensures gives { Gives (λ x. (x.0, x.1.now)) result (spec.throw_statement self.end (deeper self.end room) place tokens.now) }
+    fn throw_statement<'a>(&self, place: Place, tokens: &'a [Token]) -> Read<'a, Statement>
+        requires reads { ReadsNested E.Fn S.Fn self.now }
+        ensures gives { Gives (λ x. (x.0, x.1.now)) result (spec.throw_statement self.now.end (deeper self.now.end self.now.room) place tokens.now) }
         ensures no_longer { IfOk result (λ x. length x.1.now ≤ length tokens.now) }
     {
         if begins_line(tokens) {
             return Err(refused(self.end, ReadKind::Unexpected, tokens));
         }
-        let (value, rest) = self.expression(Form::Plain, room, tokens)?;
+        let (value, rest) = self.expression(Form::Plain, tokens)?;
         let rest = read_semicolon(self.end, rest)?;
         Ok((throw_node(self.alloc, place, value)?, rest))
     }
 
     /// A clause of a `switch` from its colon on.
     #[tactic(auto, unfolding(js_grammar::specs::Statements::clause_from))]
-    #[cycle(parser)]
     fn clause_from<'a>(
-        self,
+        &self,
         around: Around,
         test: Option<Expression>,
-        room: u32,
         tokens: &'a [Token],
     ) -> Read<'a, Clause>
-        ensures gives { Gives (λ x. (x.0, x.1.now)) result (spec.clause_from self.end (deeper self.end room) around test tokens.now) }
+        requires reads { ReadsNested E.Fn S.Fn self.now }
+        ensures gives { Gives (λ x. (x.0, x.1.now)) result (spec.clause_from self.now.end (deeper self.now.end self.now.room) around test tokens.now) }
         ensures shorter { IfOk result (λ x. length x.1.now < length tokens.now) }
     {
         let rest = expect(self.end, Sign::Colon, tokens)?;
-        let (body, rest) = self.statements(around, room, rest)?;
+        let (body, rest) = self.statements(around, rest)?;
         Ok((Clause { test, body }, rest))
     }
 
     /// A clause with a test, where one begins here.
     #[tactic(auto, unfolding(js_grammar::specs::Statements::a_case))]
-    #[cycle(parser)]
-    fn a_case<'a>(self, around: Around, room: u32, tokens: &'a [Token]) -> Read<'a, Turn<Clause>>
-        ensures gives { Gives (λ x. (x.0, x.1.now)) result (spec.a_case self.end (deeper self.end room) around tokens.now) }
+    fn a_case<'a>(&self, around: Around, tokens: &'a [Token]) -> Read<'a, Turn<Clause>>
+        requires reads { ReadsNested E.Fn S.Fn self.now }
+        ensures gives { Gives (λ x. (x.0, x.1.now)) result (spec.a_case self.now.end (deeper self.now.end self.now.room) around tokens.now) }
         ensures shortens { IfOk result (λ x. Shortens x.0 tokens.now x.1.now) }
     {
         match next_keyword(tokens) {
             Some(Keyword::Case) => {
-                let (test, rest) = self.expression(Form::Plain, room, rest_of(tokens))?;
-                let (clause, rest) = self.clause_from(around, Some(test), room, rest)?;
+                let (test, rest) = self.expression(Form::Plain, rest_of(tokens))?;
+                let (clause, rest) = self.clause_from(around, Some(test), rest)?;
                 Ok((Turn::More(clause), rest))
             }
             _ => Ok((Turn::End, tokens)),
         }
     }
 
-    #[cycle(parser)]
-    fn cases<'a>(self, around: Around, room: u32, tokens: &'a [Token]) -> Read<'a, ClauseList>
-        ensures gives { Gives (λ x. (x.0, x.1.now)) result (row (spec.a_case self.end (deeper self.end room) around) tokens.now) }
+    fn cases<'a>(&self, around: Around, tokens: &'a [Token]) -> Read<'a, ClauseList>
+        requires reads { ReadsNested E.Fn S.Fn self.now }
+        ensures gives { Gives (λ x. (x.0, x.1.now)) result (row (spec.a_case self.now.end (deeper self.now.end self.now.room) around) tokens.now) }
         ensures no_longer { IfOk result (λ x. length x.1.now ≤ length tokens.now) }
     {
-        let mut all = ClauseList::new(self.alloc);
-        let mut rest = tokens;
-        loop {
-            let (turn, after) = self.a_case(around, room, rest)?;
-            match turn {
-                Turn::More(x) => {
-                    all.push(self.alloc, x)?;
-                    rest = after;
-                }
-                Turn::Last(x) => {
-                    all.push(self.alloc, x)?;
-                    return Ok((all, after));
-                }
-                Turn::End => return Ok((all, after)),
-            }
-        }
+        row(self.alloc, tokens, |rest| self.a_case(around, rest))
     }
 
     /// The clauses of a `switch`, at most one of them `default`.
     #[tactic(auto, unfolding(js_grammar::specs::Statements::clauses))]
-    #[cycle(parser)]
-    fn clauses<'a>(self, around: Around, room: u32, tokens: &'a [Token]) -> Read<'a, ClauseList>
-        ensures gives { Gives (λ x. (x.0, x.1.now)) result (spec.clauses self.end (deeper self.end room) around tokens.now) }
+    fn clauses<'a>(&self, around: Around, tokens: &'a [Token]) -> Read<'a, ClauseList>
+        requires reads { ReadsNested E.Fn S.Fn self.now }
+        ensures gives { Gives (λ x. (x.0, x.1.now)) result (spec.clauses self.now.end (deeper self.now.end self.now.room) around tokens.now) }
         ensures no_longer { IfOk result (λ x. length x.1.now ≤ length tokens.now) }
     {
-        let (cases, rest) = self.cases(around, room, tokens)?;
+        let (cases, rest) = self.cases(around, tokens)?;
         match next_keyword(rest) {
             Some(Keyword::Default) => {
-                let (default, rest) = self.clause_from(around, None, room, rest_of(rest))?;
-                let (others, rest) = self.cases(around, room, rest)?;
+                let (default, rest) = self.clause_from(around, None, rest_of(rest))?;
+                let (others, rest) = self.cases(around, rest)?;
                 Ok((with_default(cases, default, others)?, rest))
             }
             _ => Ok((cases, rest)),
@@ -622,34 +498,28 @@ impl Parser {
 
     /// `switch` behind its word.
     #[tactic(auto, unfolding(js_grammar::specs::Statements::switch_statement))]
-    #[cycle(parser)]
     fn switch_statement<'a>(
-        self,
+        &self,
         around: Around,
         place: Place,
-        room: u32,
         tokens: &'a [Token],
     ) -> Read<'a, Statement>
-        ensures gives { Gives (λ x. (x.0, x.1.now)) result (spec.switch_statement self.end (deeper self.end room) around place tokens.now) }
+        requires reads { ReadsNested E.Fn S.Fn self.now }
+        ensures gives { Gives (λ x. (x.0, x.1.now)) result (spec.switch_statement self.now.end (deeper self.now.end self.now.room) around place tokens.now) }
         ensures no_longer { IfOk result (λ x. length x.1.now ≤ length tokens.now) }
     {
-        let (value, rest) = self.in_parentheses(room, tokens)?;
+        let (value, rest) = self.in_parentheses(tokens)?;
         let rest = expect(self.end, Sign::LeftBrace, rest)?;
-        let (clauses, rest) = self.clauses(in_switch(around), room, rest)?;
+        let (clauses, rest) = self.clauses(in_switch(around), rest)?;
         let rest = expect(self.end, Sign::RightBrace, rest)?;
         Ok((switch_node(self.alloc, place, value, clauses)?, rest))
     }
 
     /// The handler of a `try`, where it has one.
     #[tactic(auto, unfolding(js_grammar::specs::Statements::catch_part))]
-    #[cycle(parser)]
-    fn catch_part<'a>(
-        self,
-        around: Around,
-        room: u32,
-        tokens: &'a [Token],
-    ) -> Read<'a, Option<Catch>>
-        ensures gives { Gives (λ x. (x.0, x.1.now)) result (spec.catch_part self.end (deeper self.end room) around tokens.now) }
+    fn catch_part<'a>(&self, around: Around, tokens: &'a [Token]) -> Read<'a, Option<Catch>>
+        requires reads { ReadsNested E.Fn S.Fn self.now }
+        ensures gives { Gives (λ x. (x.0, x.1.now)) result (spec.catch_part self.now.end (deeper self.now.end self.now.room) around tokens.now) }
         ensures no_longer { IfOk result (λ x. length x.1.now ≤ length tokens.now) }
     {
         match next_keyword(tokens) {
@@ -657,7 +527,7 @@ impl Parser {
                 let rest = expect(self.end, Sign::LeftParenthesis, rest_of(tokens))?;
                 let (name, rest) = read_name(self.alloc, self.end, rest)?;
                 let rest = expect(self.end, Sign::RightParenthesis, rest)?;
-                let (body, rest) = self.block(inside(around), room, rest)?;
+                let (body, rest) = self.block(inside(around), rest)?;
                 Ok((Some(Catch { name, body }), rest))
             }
             _ => Ok((None, tokens)),
@@ -666,19 +536,14 @@ impl Parser {
 
     /// The last block of a `try`, where it has one.
     #[tactic(auto, unfolding(js_grammar::specs::Statements::finally_part))]
-    #[cycle(parser)]
-    fn finally_part<'a>(
-        self,
-        around: Around,
-        room: u32,
-        tokens: &'a [Token],
-    ) -> Read<'a, Option<Statement>>
-        ensures gives { Gives (λ x. (x.0, x.1.now)) result (spec.finally_part self.end (deeper self.end room) around tokens.now) }
+    fn finally_part<'a>(&self, around: Around, tokens: &'a [Token]) -> Read<'a, Option<Statement>>
+        requires reads { ReadsNested E.Fn S.Fn self.now }
+        ensures gives { Gives (λ x. (x.0, x.1.now)) result (spec.finally_part self.now.end (deeper self.now.end self.now.room) around tokens.now) }
         ensures no_longer { IfOk result (λ x. length x.1.now ≤ length tokens.now) }
     {
         match next_keyword(tokens) {
             Some(Keyword::Finally) => {
-                let (body, rest) = self.block(inside(around), room, rest_of(tokens))?;
+                let (body, rest) = self.block(inside(around), rest_of(tokens))?;
                 Ok((Some(body), rest))
             }
             _ => Ok((None, tokens)),
@@ -687,20 +552,19 @@ impl Parser {
 
     /// `try` behind its word.
     #[tactic(auto, unfolding(js_grammar::specs::Statements::try_statement))]
-    #[cycle(parser)]
     fn try_statement<'a>(
-        self,
+        &self,
         around: Around,
         place: Place,
-        room: u32,
         tokens: &'a [Token],
     ) -> Read<'a, Statement>
-        ensures gives { Gives (λ x. (x.0, x.1.now)) result (spec.try_statement self.end (deeper self.end room) around place tokens.now) }
+        requires reads { ReadsNested E.Fn S.Fn self.now }
+        ensures gives { Gives (λ x. (x.0, x.1.now)) result (spec.try_statement self.now.end (deeper self.now.end self.now.room) around place tokens.now) }
         ensures no_longer { IfOk result (λ x. length x.1.now ≤ length tokens.now) }
     {
-        let (body, rest) = self.block(inside(around), room, tokens)?;
-        let (catch, rest) = self.catch_part(around, room, rest)?;
-        let (last, rest) = self.finally_part(around, room, rest)?;
+        let (body, rest) = self.block(inside(around), tokens)?;
+        let (catch, rest) = self.catch_part(around, rest)?;
+        let (last, rest) = self.finally_part(around, rest)?;
         if !has_part(&catch, &last) {
             return Err(refused(self.end, ReadKind::Unexpected, rest));
         }
@@ -709,57 +573,55 @@ impl Parser {
 
     /// A function declaration behind its word.
     #[tactic(auto, unfolding(js_grammar::specs::Statements::function_statement))]
-    #[cycle(parser)]
     fn function_statement<'a>(
-        self,
+        &self,
         around: Around,
         place: Place,
-        room: u32,
         tokens: &'a [Token],
     ) -> Read<'a, Statement>
-        ensures gives { Gives (λ x. (x.0, x.1.now)) result (spec.function_statement self.end (deeper self.end room) around place tokens.now) }
+        requires reads { ReadsNested E.Fn S.Fn self.now }
+        ensures gives { Gives (λ x. (x.0, x.1.now)) result (spec.function_statement self.now.end (deeper self.now.end self.now.room) around place tokens.now) }
         ensures no_longer { IfOk result (λ x. length x.1.now ≤ length tokens.now) }
     {
         let (name, rest) = read_name(self.alloc, self.end, tokens)?;
         if !around.direct {
             return Err(ReadAnswer::Refused(ReadKind::Unsupported, place));
         }
-        let (function, rest) = self.function_from(None, room, rest)?;
+        let (function, rest) = self.function_from(None, rest)?;
         Ok((declare_node(self.alloc, place, name, function)?, rest))
     }
 
     /// A statement that begins with a word, at that word.
-    #[cycle(parser)]
     fn word_statement<'a>(
-        self,
+        &self,
         keyword: Option<Keyword>,
         around: Around,
         place: Place,
-        room: u32,
         tokens: &'a [Token],
     ) -> Read<'a, Statement>
-        requires { 0 < length tokens.now }
-        ensures gives { Gives (λ x. (x.0, x.1.now)) result (spec.word_statement self.end (deeper self.end room) around keyword place tokens.now) }
+        requires reads { ReadsNested E.Fn S.Fn self.now }
+        requires some { 0 < length tokens.now }
+        ensures gives { Gives (λ x. (x.0, x.1.now)) result (spec.word_statement self.now.end (deeper self.now.end self.now.room) around keyword place tokens.now) }
         ensures shorter { IfOk result (λ x. length x.1.now < length tokens.now) }
     {
         let rest = rest_of(tokens);
         match keyword {
             None => match next_sign(rest) {
                 Some(Sign::Colon) => Err(ReadAnswer::Refused(ReadKind::Unsupported, place)),
-                _ => self.evaluated(room, tokens),
+                _ => self.evaluated(tokens),
             },
-            Some(Keyword::Var) => self.var_statement(place, room, rest),
-            Some(Keyword::If) => self.if_statement(around, place, room, rest),
-            Some(Keyword::Do) => self.do_statement(around, place, room, rest),
-            Some(Keyword::While) => self.while_statement(around, place, room, rest),
-            Some(Keyword::For) => self.for_statement(around, place, room, rest),
+            Some(Keyword::Var) => self.var_statement(place, rest),
+            Some(Keyword::If) => self.if_statement(around, place, rest),
+            Some(Keyword::Do) => self.do_statement(around, place, rest),
+            Some(Keyword::While) => self.while_statement(around, place, rest),
+            Some(Keyword::For) => self.for_statement(around, place, rest),
             Some(Keyword::Continue) => continued(self.end, around, place, rest),
             Some(Keyword::Break) => broken(self.end, around, place, rest),
-            Some(Keyword::Return) => self.return_statement(around, place, room, rest),
-            Some(Keyword::Throw) => self.throw_statement(place, room, rest),
-            Some(Keyword::Switch) => self.switch_statement(around, place, room, rest),
-            Some(Keyword::Try) => self.try_statement(around, place, room, rest),
-            Some(Keyword::Function) => self.function_statement(around, place, room, rest),
+            Some(Keyword::Return) => self.return_statement(around, place, rest),
+            Some(Keyword::Throw) => self.throw_statement(place, rest),
+            Some(Keyword::Switch) => self.switch_statement(around, place, rest),
+            Some(Keyword::Try) => self.try_statement(around, place, rest),
+            Some(Keyword::Function) => self.function_statement(around, place, rest),
             Some(Keyword::Debugger) => {
                 let node = StatementNode::Debugger;
                 alone(self.end, Statement { place, node }, rest)
@@ -774,14 +636,14 @@ impl Parser {
                 | Keyword::Super
                 | Keyword::With,
             ) => Err(ReadAnswer::Refused(ReadKind::Unsupported, place)),
-            Some(_) => self.evaluated(room, tokens),
+            Some(_) => self.evaluated(tokens),
         }
     }
 
     #[tactic(auto, unfolding(js_grammar::specs::Statements::statement))]
-    #[cycle(parser)]
-    fn statement_in<'a>(self, around: Around, room: u32, tokens: &'a [Token]) -> Read<'a, Statement>
-        ensures gives { Gives (λ x. (x.0, x.1.now)) result (spec.statement self.end (deeper self.end room) around tokens.now) }
+    pub fn statement_in<'a>(&self, around: Around, tokens: &'a [Token]) -> Read<'a, Statement>
+        requires reads { ReadsNested E.Fn S.Fn self.now }
+        ensures gives { Gives (λ x. (x.0, x.1.now)) result (spec.statement self.now.end (deeper self.now.end self.now.room) around tokens.now) }
         ensures shorter { IfOk result (λ x. length x.1.now < length tokens.now) }
     {
         let [token, rest @ ..] = tokens else {
@@ -790,14 +652,14 @@ impl Parser {
         let place = token.place;
         match &token.kind {
             TokenKind::Word(word) => {
-                self.word_statement(keyword_of(word.units()), around, place, room, tokens)
+                self.word_statement(keyword_of(word.units()), around, place, tokens)
             }
-            TokenKind::Sign(Sign::LeftBrace) => self.block_from(around, place, room, rest),
+            TokenKind::Sign(Sign::LeftBrace) => self.block_from(around, place, rest),
             TokenKind::Sign(Sign::Semicolon) => {
                 let node = StatementNode::Empty;
                 Ok((Statement { place, node }, rest))
             }
-            _ => self.evaluated(room, tokens),
+            _ => self.evaluated(tokens),
         }
     }
 }
