@@ -77,6 +77,17 @@ fn additions(count: u32, name_of: fn(u32) -> Vec<u16>) -> u64 {
     object.len() as u64 + 1
 }
 
+fn deletions(count: u32) -> u64 {
+    let mut object = BTreeMap::new();
+    let mut names = Vec::new();
+    for number in 0..count {
+        let name = random_name(number);
+        object.insert(name.clone(), Value::Number(i64::from(number)));
+        names.push(name);
+    }
+    names.iter().filter(|name| object.remove(*name).is_some()).count() as u64
+}
+
 fn main() {
     let words: Vec<String> = env::args().collect();
     let number = |at: usize| words.get(at).and_then(|word| word.parse().ok()).unwrap_or(0);
@@ -86,7 +97,8 @@ fn main() {
         Some("slots") => slots(size, count),
         Some("chosen") => additions(count, chosen_name),
         Some("random") => additions(count, random_name),
-        _ => panic!("gets, slots, chosen or random, a size and a count"),
+        Some("deleted") => deletions(count),
+        _ => panic!("gets, slots, chosen, random or deleted, a size and a count"),
     };
     println!("{sum}");
 }

@@ -21,8 +21,9 @@ fn do_work(alloc: Global, work: &str, size: u32, count: u32) -> Result<u64> {
         "slots" => work::slots(alloc, size, count),
         "chosen" => work::additions(alloc, count, Naming::Chosen),
         "random" => work::additions(alloc, count, Naming::Random),
+        "deleted" => work::deletions(alloc, count),
         "objects" => work::objects(alloc, size, count),
-        _ => bail!("gets, slots, chosen, random or objects, a size and a count"),
+        _ => bail!("gets, slots, chosen, random, deleted or objects, a size and a count"),
     }
 }
 

@@ -129,6 +129,20 @@ pub fn additions(alloc: Global, count: u32, naming: Naming) -> Result<u64> {
     Ok(heap.cells())
 }
 
+/// New properties of one object, each deleted again in the order of creation.
+pub fn deletions(alloc: Global, count: u32) -> Result<u64> {
+    let mut heap = Heap::new(alloc)?;
+    let object = heap.make(alloc, Kind::Plain, None)?;
+    let names = fill(alloc, &mut heap, object, count)?;
+    let mut sum: u64 = 0;
+    for name in names.as_slice() {
+        if heap.delete(object, name) {
+            sum = sum.wrapping_add(1);
+        }
+    }
+    Ok(sum)
+}
+
 /// So many objects of so many properties each, the name of each made anew.
 pub fn objects(alloc: Global, count: u32, size: u32) -> Result<u64> {
     let mut heap = Heap::new(alloc)?;

@@ -1,5 +1,4 @@
-pub mod BoxLemmas
-pub mod IndexLemmas
 pub mod KeyLemmas
 pub mod ObjectLemmas
+pub mod PlaceLemmas
 pub mod RowLemmas

@@ -2,11 +2,14 @@
 use Rattle.std.proofs.Common.{◌≡◌, ℕ, ◌≤◌, zero, suc, List, [], ◌∷◌, ◌++◌, true, false, cond, Some, None, slice_get, length, take, refl, sym, ap, subst, ◌∙◌, arith, ⊎_elim}
 use Rattle.std.specs.Str.{bytes_eq}
 use Rattle.std.proofs.lemmas.Bool.{cases_Bool}
+use Rattle.std.proofs.lemmas.Slice.Eq.{bytes_eq-Decides}
 use Rattle.utf16_text.specs.Comparing.{texts_equal}
 use Rattle.heap_values.specs.declared.property.Property.{Property}
-use Rattle.heap_objects.proofs.IndexLemmas.{same_name}
 use Rattle.heap_objects.specs.Properties.{property_at, with_property, without_property}
 use Rattle.heap_objects.specs.Places.{StandsAt, IsMissing, NamesDiffer}
+
+pub same_name : (m n : List ℕ) → bytes_eq m n ≡ true → m ≡ n
+same_name m n same = (bytes_eq-Decides m n).0 same
 
 -- no entry before the place has the name
 abbrev pub NoneBefore : List (List ℕ × Property) → List ℕ → ℕ → Type 0
@@ -107,12 +110,20 @@ NamesDiffer-without (e ∷ es) n h = ⊎_elim
     (cases_Bool (bytes_eq n e.0))
 
 -- a property under a name that is missing goes to the end
-with_property-missing : (es : List (List ℕ × Property)) (n : List ℕ) (p : Property) → property_at es n ≡ None → with_property es n p ≡ es ++ (n, p) ∷ []
+pub with_property-missing : (es : List (List ℕ × Property)) (n : List ℕ) (p : Property) → property_at es n ≡ None → with_property es n p ≡ es ++ (n, p) ∷ []
 with_property-missing [] n p none = refl
 with_property-missing (e ∷ es) n p none =
     let other = differs_from_first e es n none in
     ap (λ b. cond b ((e.0, p) ∷ es) (e ∷ with_property es n p)) other
     ∙ ap (λ l. e ∷ l) (with_property-missing es n p (sym (ap (λ b. cond b (Some (e.1)) (property_at es n)) other) ∙ none))
+
+-- where no property has the name, none is taken away
+pub without_property-missing : (ps : List (List ℕ × Property)) (m : List ℕ) → property_at ps m ≡ None → without_property ps m ≡ ps
+without_property-missing [] m none = refl
+without_property-missing (e ∷ es) m none =
+    let other = differs_from_first e es m none in
+    ap (λ b. cond b es (e ∷ without_property es m)) other
+    ∙ ap (λ l. e ∷ l) (without_property-missing es m (sym (ap (λ b. cond b (Some (e.1)) (property_at es m)) other) ∙ none))
 
 -- no entry has a name that is missing
 apart_from_missing : (es : List (List ℕ × Property)) (n : List ℕ) (i : ℕ) (e : List ℕ × Property) → property_at es n ≡ None → slice_get es i ≡ Some e → bytes_eq n e.0 ≡ false

@@ -4,15 +4,16 @@
 //! deleted in steps that grow with the logarithm of their number. It stands on the values.
 #![tactic(auto)]
 
+mod index;
 mod listing;
 mod name_set;
 mod names;
-mod numbered;
 mod object;
 mod ordered;
 mod properties;
 mod row;
 mod scope;
+mod slots;
 
 pub use name_set::NameSet;
 pub use names::array_index;

@@ -1,26 +1,27 @@
-// Many properties, each under its number in the order of creation.
-ghost use Rattle.std.specs.Prelude.{◌≡◌, [], Some, None, IfOk, OnOk, OnErr};
+// Many properties, each at its place in the order of creation.
+ghost use Rattle.std.specs.Prelude.{◌≡◌, [], IfOk, OnOk, OnErr};
 ghost use Rattle.std.specs.Option.{option_copied};
-ghost use Rattle.std.specs.Ordering.{nat_cmp};
-ghost use Rattle.std.specs.BTreeMap.{get};
-ghost use Rattle.std.specs.Cmp.Lexicographic.{slice_cmp};
-ghost use Rattle.heap_objects.specs.Places.{Updated};
 ghost use Rattle.heap_objects.specs.Properties.{property_at, with_property, without_property, listed_names_of};
 
-use crate::numbered::Numbered;
+use crate::index::{move_places, put_place, remove_place};
+use crate::slots::{
+    Slot, append_slot, drop_gaps, list_slots, next_place, property_at_place, write_slot,
+};
 use heap_values::Property;
 use std::alloc::Global;
 use std::collections::BTreeMap;
 use std::marker::Model;
 use utf16_text::{Memory, Text, TextList};
 
-/// Properties with distinct names, seen as a list in the order of creation. Beside them stands an index of their numbers
-/// by name, so that a script can't choose names that are slow.
+/// Properties with distinct names, seen as a list in the order of creation. They stand in a row, and an index gives the
+/// place of each name, so that a script can't choose names that are slow.
+///
+/// A deletion leaves a gap in the row. Once fewer than half of the slots are filled, the gaps are closed, which takes steps
+/// in proportion to the deletions since the last time, each of the logarithm: so a deletion takes that on average.
 #[derive(Drop)]
 pub(crate) struct Ordered {
-    properties: Numbered,
-    numbers: BTreeMap<Text, u32>,
-    next: u32,
+    row: Vec<Slot>,
+    places: BTreeMap<Text, u32>,
 }
 
 impl Model for Ordered {
@@ -28,15 +29,14 @@ impl Model for Ordered {
     ghost use Rattle.std.specs.Ordering.{nat_cmp};
     ghost use Rattle.std.specs.Cmp.Lexicographic.{slice_cmp};
     ghost use Rattle.std.specs.BTreeMap.{get};
-    ghost use Rattle.std.specs.Map.{values_of};
     ghost use Rattle.heap_values.specs.declared.property.Property.{Property};
-    ghost use Rattle.heap_objects.specs.Places.{IsIndexOf};
+    ghost use Rattle.heap_objects.specs.Slots.{standing, IsIndexOf};
 
     ghost Value = { List (List ℕ × Property) };
 
-    ghost view = { λ o. values_of o.properties };
+    ghost view = { λ o. standing o.row.items };
 
-    ghost invariant = { λ o. IsIndexOf o.next (get (slice_cmp nat_cmp) o.numbers) 0 o.properties };
+    ghost invariant = { λ o. IsIndexOf (get (slice_cmp nat_cmp) o.places) o.row.items };
 }
 
 impl Ordered {
@@ -44,18 +44,17 @@ impl Ordered {
         ensures { result ≡ [] }
     {
         Ordered {
-            properties: Numbered::new(alloc),
-            numbers: BTreeMap::new(alloc),
-            next: 0,
+            row: Vec::new(alloc),
+            places: BTreeMap::new(alloc),
         }
     }
 
     pub(crate) fn get(&self, name: &Text) -> Option<&Property>
         ensures { option_copied result ≡ property_at self.now name.now }
     {
-        match self.numbers.get(name).copied() {
+        match self.places.get(name).copied() {
             None => None,
-            Some(number) => self.properties.get(number),
+            Some(place) => property_at_place(&self.row, place),
         }
     }
 
@@ -70,22 +69,18 @@ impl Ordered {
         ensures unchanged { OnErr result (self.new ≡ self.old) }
     {
         let held = name.copy(alloc)?;
-        if let Some(number) = self.numbers.get(name).copied() {
-            self.properties.put(alloc, number, held, property)?;
+        if let Some(place) = self.places.get(name).copied() {
+            write_slot(&mut self.row, place, Some((held, property)));
             return Ok(());
         }
-        let number = self.next;
-        let Some(next) = number.checked_add(1) else {
+        let Some(place) = next_place(&self.row) else {
             return Err(Memory);
         };
-        put_number(&mut self.numbers, name.copy(alloc)?, number)?;
-        match self.properties.put(alloc, number, held, property) {
-            Ok(()) => {
-                self.next = next;
-                Ok(())
-            }
+        put_place(&mut self.places, name.copy(alloc)?, place)?;
+        match append_slot(&mut self.row, held, property) {
+            Ok(()) => Ok(()),
             Err(memory) => {
-                remove_number(&mut self.numbers, name);
+                remove_place(&mut self.places, name);
                 Err(memory)
             }
         }
@@ -95,33 +90,30 @@ impl Ordered {
     pub(crate) fn remove(&mut self, name: &Text)
         ensures { self.new ≡ without_property self.old name.now }
     {
-        match self.numbers.get(name).copied() {
+        match self.places.get(name).copied() {
             None => {}
-            Some(number) => {
-                remove_number(&mut self.numbers, name);
-                self.properties.remove(number);
+            Some(place) => {
+                remove_place(&mut self.places, name);
+                write_slot(&mut self.row, place, None);
+                if self.places.len() < self.row.len() / 2 {
+                    self.close_gaps();
+                }
             }
         }
+    }
+
+    // Takes the empty slots out of the row.
+    fn close_gaps(&mut self)
+        ensures { self.new ≡ self.old }
+    {
+        drop_gaps(&mut self.row);
+        move_places(&self.row, &mut self.places);
     }
 
     /// The names that are listed: array indexes first, rising, then the others in the order of creation.
     pub(crate) fn listed_names(&self, alloc: Global) -> Result<TextList, Memory>
         ensures { IfOk result (λ names. names ≡ listed_names_of self.now) }
     {
-        self.properties.listed_names(alloc)
+        list_slots(alloc, &self.row)
     }
-}
-
-fn put_number(numbers: &mut BTreeMap<Text, u32>, name: Text, number: u32) -> Result<(), Memory>
-    ensures ok { OnOk result (Updated (get (slice_cmp nat_cmp) numbers.old) name (Some number) (get (slice_cmp nat_cmp) numbers.new)) }
-    ensures unchanged { OnErr result (numbers.new.entries ≡ numbers.old.entries) }
-{
-    numbers.insert(name, number)?;
-    Ok(())
-}
-
-fn remove_number(numbers: &mut BTreeMap<Text, u32>, name: &Text)
-    ensures { Updated (get (slice_cmp nat_cmp) numbers.old) name.now None (get (slice_cmp nat_cmp) numbers.new) }
-{
-    let _number = numbers.remove(name);
 }

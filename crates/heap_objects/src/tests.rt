@@ -98,6 +98,33 @@ fn properties_keep_their_order_in_both_forms(rt: HostRuntime) -> Result<(), Fail
     Ok(())
 }
 
+// Nine of twelve properties are deleted, so that the gaps in the row are closed on the way.
+#[test]
+fn deletions_keep_the_order_of_the_others(rt: HostRuntime) -> Result<(), Fail> {
+    let alloc = rt.alloc();
+    let mut properties = Properties::new(alloc);
+    for (at, name) in NAMES.iter().enumerate() {
+        properties.set(alloc, &text(alloc, name)?, property(at as u32, true, true))?;
+    }
+    for (at, name) in NAMES.iter().enumerate() {
+        if at % 4 != 3 {
+            properties.remove(&text(alloc, name)?);
+        }
+    }
+    properties.set(alloc, &text(alloc, "b")?, property(88, true, true))?;
+    let listed = joined(alloc, &properties.listed_names(alloc)?)?;
+    assert_eq!(rt; listed.as_str(), "9,x,t,b,");
+    for (name, value) in [("9", 3), ("x", 7), ("t", 11), ("b", 88)] {
+        assert_eq!(rt;
+            value_at(&properties, &text(alloc, name)?),
+            Some(value),
+            "{name}"
+        );
+    }
+    assert_eq!(rt; value_at(&properties, &text(alloc, "z")?), None);
+    Ok(())
+}
+
 // The number under a name, or -1 where nothing is there.
 fn number_at(alloc: Global, object: &Object, name: &str) -> Result<i64, Fail> {
     let found = object.find_own(alloc, &text(alloc, name)?)?;

@@ -1,22 +1,22 @@
-use Rattle.std.proofs.Common.{◌∙◌, sym, ap}
-use Rattle.std.specs.Ordering.{nat_cmp}
-use Rattle.std.specs.Cmp.Lexicographic.{slice_cmp}
-use Rattle.std.specs.BTreeMap.{get}
-use Rattle.std.specs.Option.{option_map}
+use Rattle.std.proofs.Common.{◌∙◌, slice_get, sym, ap}
 use Rattle.heap_objects.specs.Properties.{property_at}
-use Rattle.heap_objects.proofs.IndexLemmas.{missing, found_at}
+use Rattle.heap_objects.specs.Slots.{property_in}
+use Rattle.heap_objects.proofs.PlaceLemmas.{no_property, found_at}
 use Rattle.heap_objects.proofs.ordered.Ordered.get.Goals as goal
 
 pub returns-in-None : goal.returns-in-None
 returns-in-None c =
-    let inside = c.self.inside in
-    let none = sym c.get.ensures.value ∙ sym c.copied.ensures ∙ c.in-None.is in
-    sym (missing inside.next (get (slice_cmp nat_cmp) inside.numbers) 0 inside.properties c.args.name.now c.self.invariant none)
-    ∙ ap (λ ps. property_at ps c.args.name.now) c.self.view_is
+    let name = c.args.name.now in
+    let none = sym (c.self.invariant.places name) ∙ sym c.get.ensures.value ∙ sym c.copied.ensures ∙ c.in-None.is in
+    sym (no_property c.self.inside.row.items name none) ∙ ap (λ ps. property_at ps name) c.self.view_is
 
 pub returns-in-Some : goal.returns-in-Some
 returns-in-Some c =
-    let inside = c.self.inside in
-    let number = sym c.get.ensures.value ∙ sym c.copied.ensures ∙ c.in-Some.is in
-    let found = found_at inside.next (get (slice_cmp nat_cmp) inside.numbers) 0 inside.properties c.args.name.now c.in-Some.number c.self.invariant number in
-    c.get-in-Some.ensures ∙ ap (option_map (λ entry. entry.1)) found.numbered ∙ sym found.named ∙ ap (λ ps. property_at ps c.args.name.now) c.self.view_is
+    let name = c.args.name.now in
+    let place = sym (c.self.invariant.places name) ∙ sym c.get.ensures.value ∙ sym c.copied.ensures ∙ c.in-Some.is in
+    let found = found_at c.self.inside.row.items name c.in-Some.place place in
+    c.property_at_place.ensures
+    ∙ ap (λ row. property_in (slice_get row c.in-Some.place)) c.deref.ensures.value
+    ∙ ap property_in found.stands
+    ∙ sym found.named
+    ∙ ap (λ ps. property_at ps name) c.self.view_is

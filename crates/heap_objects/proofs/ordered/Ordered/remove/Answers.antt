@@ -2,29 +2,38 @@ use Rattle.std.proofs.Common.{◌∙◌, sym, ap, subst}
 use Rattle.std.specs.Ordering.{nat_cmp}
 use Rattle.std.specs.Cmp.Lexicographic.{slice_cmp}
 use Rattle.std.specs.BTreeMap.{get}
-use Rattle.std.specs.Map.{values_of}
 use Rattle.heap_objects.specs.Properties.{without_property}
-use Rattle.heap_objects.specs.Places.{IsIndexOf}
-use Rattle.heap_objects.proofs.IndexLemmas.{missing, taken_away, without_property-missing}
+use Rattle.heap_objects.specs.Slots.{standing, IsIndexOf}
+use Rattle.heap_objects.proofs.PlaceLemmas.{no_property, taken_away, index-taken_away}
+use Rattle.heap_objects.proofs.RowLemmas.{without_property-missing}
 use Rattle.heap_objects.proofs.ordered.Ordered.remove.Goals as goal
 
 pub invariant_of-self : goal.invariant_of-self
 invariant_of-self c =
-    let inside = c.self.inside in
-    let known = sym c.get.ensures.value ∙ sym c.copied.ensures ∙ c.in-Some.is in
-    let gone = taken_away inside.next (get (slice_cmp nat_cmp) inside.numbers) 0 inside.properties c.args.name.now c.in-Some.number (get (slice_cmp nat_cmp) c.remove_number.new.numbers) c.self.invariant known c.remove_number.ensures in
-    subst (IsIndexOf inside.next (get (slice_cmp nat_cmp) c.remove_number.new.numbers) 0) (sym c.remove.ensures) gone.index
+    let found = sym c.get.ensures.value ∙ sym c.copied.ensures ∙ c.in-Some.is in
+    subst (IsIndexOf (get (slice_cmp nat_cmp) c.remove_place.new.places)) (sym c.write_slot.ensures)
+    (index-taken_away _ c.self.inside.row.items c.args.name.now c.in-Some.place _ c.self.invariant found c.remove_place.ensures)
 
-pub returns-in-Some : goal.returns-in-Some
-returns-in-Some c =
-    let inside = c.self.inside in
-    let known = sym c.get.ensures.value ∙ sym c.copied.ensures ∙ c.in-Some.is in
-    let gone = taken_away inside.next (get (slice_cmp nat_cmp) inside.numbers) 0 inside.properties c.args.name.now c.in-Some.number (get (slice_cmp nat_cmp) c.remove_number.new.numbers) c.self.invariant known c.remove_number.ensures in
-    ap values_of c.remove.ensures ∙ gone.listed ∙ ap (λ ps. without_property ps c.args.name.now) c.self.view_is
+pub invariant_of-self-else-len : goal.invariant_of-self-else-len
+invariant_of-self-else-len c =
+    let found = sym c.get.ensures.value ∙ sym c.copied.ensures ∙ c.in-Some.is in
+    subst (IsIndexOf (get (slice_cmp nat_cmp) c.remove_place.new.places)) (sym c.write_slot.ensures)
+    (index-taken_away _ c.self.inside.row.items c.args.name.now c.in-Some.place _ c.self.invariant found c.remove_place.ensures)
+
+pub returns-then-len : goal.returns-then-len
+returns-then-len c =
+    let place = sym (c.self.invariant.places c.args.name.now) ∙ sym c.get.ensures.value ∙ sym c.copied.ensures ∙ c.in-Some.is in
+    let gone = taken_away c.self.inside.row.items c.args.name.now c.in-Some.place c.self.invariant.differ place in
+    c.close_gaps.ensures ∙ ap standing c.write_slot.ensures ∙ gone.listed ∙ ap (λ ps. without_property ps c.args.name.now) c.self.view_is
+
+pub returns-else-len : goal.returns-else-len
+returns-else-len c =
+    let place = sym (c.self.invariant.places c.args.name.now) ∙ sym c.get.ensures.value ∙ sym c.copied.ensures ∙ c.in-Some.is in
+    let gone = taken_away c.self.inside.row.items c.args.name.now c.in-Some.place c.self.invariant.differ place in
+    ap standing c.write_slot.ensures ∙ gone.listed ∙ ap (λ ps. without_property ps c.args.name.now) c.self.view_is
 
 pub returns-in-None : goal.returns-in-None
 returns-in-None c =
-    let inside = c.self.inside in
-    let none = sym c.get.ensures.value ∙ sym c.copied.ensures ∙ c.in-None.is in
-    let absent = missing inside.next (get (slice_cmp nat_cmp) inside.numbers) 0 inside.properties c.args.name.now c.self.invariant none in
-    sym (ap (λ ps. without_property ps c.args.name.now) (sym c.self.view_is) ∙ without_property-missing (values_of inside.properties) c.args.name.now absent ∙ c.self.view_is)
+    let name = c.args.name.now in
+    let none = sym (c.self.invariant.places name) ∙ sym c.get.ensures.value ∙ sym c.copied.ensures ∙ c.in-None.is in
+    sym (ap (λ ps. without_property ps name) (sym c.self.view_is) ∙ without_property-missing (standing c.self.inside.row.items) name (no_property c.self.inside.row.items name none) ∙ c.self.view_is)
