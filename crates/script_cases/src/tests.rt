@@ -326,11 +326,7 @@ const REFUSED_FORMS: &[(&str, &str)] = &[
 ];
 
 /// Whether each script reads as what stands beside it.
-fn read_as_told(
-    rt: &impl Abort,
-    alloc: Global,
-    table: &[(&str, &str)],
-) -> Result<(), Fail> {
+fn read_as_told(rt: &impl Abort, alloc: Global, table: &[(&str, &str)]) -> Result<(), Fail> {
     for (source, wanted) in table {
         let line = read(rt, alloc, source)?;
         assert_eq!(rt; line.as_str(), *wanted, "of {source}");
