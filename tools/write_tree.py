@@ -13,7 +13,7 @@ from pathlib import Path
 SPECS = Path("crates/js_tree/specs")
 SOURCES = Path("crates/js_tree/src")
 NOTE = "-- Written by tools/write_tree.py from Tree.antt: change that file, and run the script.\n"
-VIEW_NOTE = "-- Written by tools/write_tree.py from Tree.antt, src/expression.rt and src/statement.rt: change these, and run the script.\n"
+VIEW_NOTE = "-- Written by tools/write_tree.py from Tree.antt, src/expression.rt and src/statement.rt: change these, and run it.\n"
 
 # The enums without fields that trees hold: their name in code, and the source file of each.
 ENUMS = {

@@ -1,5 +1,5 @@
-//! Reads replies so often, for `bench/messages/measure`: the words are a kind of reply and a count, and the output is the
-//! sum of the addresses, which depends on each reading.
+//! Reads replies so often, for `bench/messages/measure`: the words are a kind of reply and a count, and the output is
+//! the sum of the addresses, which depends on each reading.
 #![tactic(auto)]
 
 mod replies;

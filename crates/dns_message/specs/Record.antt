@@ -4,8 +4,8 @@ use Rattle.dns_name.specs.Wire.{WireName, name_at, lowered}
 use Rattle.dns_message.specs.Numbers.{number_at, address_at}
 use Rattle.dns_message.specs.Question.{type_a, type_cname, class_in}
 
--- What a record says of its name, as far as a question for an address asks: an address, another name that it is an alias
--- of, or something else.
+-- What a record says of its name, as far as a question for an address asks: an address, another name that it is an
+-- alias of, or something else.
 pub data Says : Type 0 where
   Address : ℕ → Says
   Alias : List (List ℕ) → Says

@@ -61,7 +61,8 @@ abbrev pub header_for : ℕ → Answer → Header
 header_for id (answer.Address address) = response_header id true
 header_for id answer.NoAddress = response_header id false
 
--- An address as one record: its name by a pointer to the question's (0xc00c), A, IN, a TTL of 60 seconds, and four octets.
+-- An address as one record: its name by a pointer to the question's (0xc00c), A, IN, a TTL of 60 seconds, and four
+-- octets.
 abbrev pub answer_octets : Answer → List ℕ
 answer_octets (answer.Address address) = number_octets 0xc00c ++ number_octets type_a ++ number_octets class_in ++ big_bytes 4 60 ++ number_octets 4 ++ big_bytes 4 address
 answer_octets answer.NoAddress = []

@@ -1,7 +1,16 @@
 // The header of a message.
 ghost use Rattle.std.specs.Prelude.{◌≡◌, ◌+◌, ◌<◌, ◌≤◌, length, IfNone, IfSome};
 ghost use Rattle.dns_name.specs.Writing.{overwritten};
-ghost use Rattle.dns_message.specs.Header.{bit, flags_of, has_bit, header_octets, header_of, is_response_to, query_header, response_header};
+ghost use Rattle.dns_message.specs.Header.{
+  bit,
+  flags_of,
+  has_bit,
+  header_octets,
+  header_of,
+  is_response_to,
+  query_header,
+  response_header,
+};
 
 use crate::numbers::{read_u16, write_u16};
 

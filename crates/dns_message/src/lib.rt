@@ -1,7 +1,7 @@
 //! Questions for the address of a name, and what counts as their reply, by RFC 1035 (section 4.1).
 //!
-//! Messages are read and written in place, without memory; an answer is given for a whole response to the question alone.
-//! It stands on dns_name.
+//! Messages are read and written in place, without memory; an answer is given for a whole response to the question
+//! alone. It stands on dns_name.
 #![tactic(auto)]
 
 mod chain;

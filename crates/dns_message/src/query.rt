@@ -10,8 +10,8 @@ use crate::question::write_question;
 use arrayvec::ArrayVec;
 use pac_names::LookupName;
 
-/// Writes the question for the address of a name under a number at the buffer's front (RFC 1035, section 4.1), and gives
-/// its length. All other octets stay.
+/// Writes the question for the address of a name under a number at the buffer's front (RFC 1035, section 4.1), and
+/// gives its length. All other octets stay.
 pub fn write_query(buffer: &mut [u8; 512], id: u16, name: &LookupName) -> usize
     ensures written { buffer.new ≡ question_octets id name.now ++ drop (length (question_octets id name.now)) buffer.old }
     ensures length { result ≡ length (question_octets id name.now) }
@@ -21,7 +21,8 @@ pub fn write_query(buffer: &mut [u8; 512], id: u16, name: &LookupName) -> usize
     write_question(buffer, name)
 }
 
-/// The number and the name that a datagram asks for, where it is the question that `write_query` writes, octet for octet.
+/// The number and the name that a datagram asks for, where it is the question that `write_query` writes, octet for
+/// octet.
 pub fn read_query(datagram: &[u8]) -> Option<(u16, LookupName)>
     // What is read is the datagram's question.
     ensures found { IfSome result (λ asked. datagram.now ≡ question_octets asked.0 asked.1) }

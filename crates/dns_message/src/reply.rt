@@ -14,7 +14,8 @@ use pac_names::{Answer, LookupName};
 const NAME_ERROR: u8 = 3;
 
 /// The answer that a datagram gives to the question with this number and name, or nothing where it is no reply to it:
-/// not a whole response, to another question, with another error than a name error, or with a record that can't be read.
+/// not a whole response, to another question, with another error than a name error, or with a record that can't be
+/// read.
 pub fn read_reply(datagram: &[u8], id: u16, name: &LookupName) -> Option<Answer>
     ensures { result ≡ reply_of datagram.now id name.now }
 {

@@ -21,8 +21,8 @@ const REPLY: [u8; 45] = [
 
 const ADDRESS: Answer = Answer::Address(0x5db8d822);
 
-// A reply for www.example.com under the number 1: an address of web.example.com, whose name stands at 33, and behind it at
-// 53 the record that www is an alias of web.
+// A reply for www.example.com under the number 1: an address of web.example.com, whose name stands at 33, and behind it
+// at 53 the record that www is an alias of web.
 const ALIAS: [u8; 67] = [
     0x00, 0x01, 0x81, 0x80, 0x00, 0x01, 0x00, 0x02, 0x00, 0x00, 0x00, 0x00, 0x03, 0x77, 0x77, 0x77,
     0x07, 0x65, 0x78, 0x61, 0x6d, 0x70, 0x6c, 0x65, 0x03, 0x63, 0x6f, 0x6d, 0x00, 0x00, 0x01, 0x00,

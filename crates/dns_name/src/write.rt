@@ -7,8 +7,8 @@ ghost use Rattle.dns_name.specs.Writing.{overwritten, wire_label, wire_name};
 
 use pac_names::{LookupName, split_label};
 
-/// Writes a name at an offset, without pointers (RFC 1035, section 3.1), and gives the offset behind it. All other octets
-/// stay. A name takes at most 255 octets.
+/// Writes a name at an offset, without pointers (RFC 1035, section 3.1), and gives the offset behind it. All other
+/// octets stay. A name takes at most 255 octets.
 pub fn write_name(buffer: &mut [u8; 512], at: usize, name: &LookupName) -> usize
     requires { at + 255 ≤ 512 }
     ensures written { buffer.new ≡ overwritten buffer.old at (wire_name name.now) }

@@ -1,7 +1,8 @@
 //! Objects and scopes: the properties of an object by name in the order of creation, and the values of a scope by slot.
 //!
-//! An object is that of ECMA-262 edition 5.1, section 8.6, without getters and setters. A property is found, written and
-//! deleted in steps that grow with the logarithm of their number. It stands on the values.
+//! An object is that of ECMA-262 edition 5.1, section 8.6, without getters and setters. A property is found in steps
+//! that grow with the logarithm of their number; writing and deleting one take so many on average over all of them. It
+//! stands on the values.
 #![tactic(auto)]
 
 mod index;

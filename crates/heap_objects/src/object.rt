@@ -1,7 +1,22 @@
 // One object.
 ghost use Rattle.std.specs.Prelude.{◌≡◌, ◌-◌, IfOk, OnOk, OnErr, not, fold};
 ghost use Rattle.std.specs.Option.{option_copied};
-ghost use Rattle.heap_objects.specs.Object.{empty_object, own_found, found_property, is_length, grown_length_of, put_cost_of, property_after, object_after, object_with, can_delete, is_deletable, object_without, object_cut, index_names};
+ghost use Rattle.heap_objects.specs.Object.{
+  empty_object,
+  own_found,
+  found_property,
+  is_length,
+  grown_length_of,
+  put_cost_of,
+  property_after,
+  object_after,
+  object_with,
+  can_delete,
+  is_deletable,
+  object_without,
+  object_cut,
+  index_names,
+};
 ghost use Rattle.heap_objects.specs.Properties.{listed_names_of, without_property};
 
 use crate::names::array_index;
@@ -151,7 +166,8 @@ impl Object {
         Ok(())
     }
 
-    /// The names of its own that `for`-`in` lists: array indexes first, rising, then the others in the order of creation.
+    /// The names of its own that `for`-`in` lists: array indexes first, rising, then the others in the order of
+    /// creation.
     pub fn listed_names(&self, alloc: Global) -> Result<TextList, Memory>
         ensures { IfOk result (λ names. names ≡ listed_names_of self.now.properties) }
     {

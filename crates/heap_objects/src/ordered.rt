@@ -16,8 +16,9 @@ use utf16_text::{Memory, Text, TextList};
 /// Properties with distinct names, seen as a list in the order of creation. They stand in a row, and an index gives the
 /// place of each name, so that a script can't choose names that are slow.
 ///
-/// A deletion leaves a gap in the row. Once fewer than half of the slots are filled, the gaps are closed, which takes steps
-/// in proportion to the deletions since the last time, each of the logarithm: so a deletion takes that on average.
+/// A deletion leaves a gap in the row. Once fewer than half of the slots are filled, the gaps are closed, which takes
+/// steps in proportion to the deletions since the last time, each of the logarithm: so a deletion takes that on
+/// average.
 #[derive(Drop)]
 pub(crate) struct Ordered {
     row: Vec<Slot>,

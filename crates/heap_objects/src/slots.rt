@@ -1,5 +1,22 @@
 // A row of slots, some of them empty.
-ghost use Rattle.std.specs.Prelude.{◌≡◌, ◌<◌, ◌≤◌, ◌++◌, ◌∷◌, [], Some, is_some, length, filter, slice_get, slice_set, IfOk, IfSome, OnOk, OnErr};
+ghost use Rattle.std.specs.Prelude.{
+  ◌≡◌,
+  ◌<◌,
+  ◌≤◌,
+  ◌++◌,
+  ◌∷◌,
+  [],
+  Some,
+  is_some,
+  length,
+  filter,
+  slice_get,
+  slice_set,
+  IfOk,
+  IfSome,
+  OnOk,
+  OnErr,
+};
 ghost use Rattle.std.specs.Option.{option_copied};
 ghost use Rattle.heap_objects.specs.Slots.{property_in, standing};
 ghost use Rattle.heap_objects.specs.Properties.{listed_names_of};

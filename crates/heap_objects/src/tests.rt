@@ -1,5 +1,5 @@
-// Properties, objects, scopes and lists of names. The order of names is this profile's (array indexes rising, then the order of
-// creation), the lengths of arrays are those of ECMA-262 5.1, section 15.4.5.1.
+// Properties, objects, scopes and lists of names. The order of names is this profile's (array indexes rising, then the
+// order of creation), the lengths of arrays are those of ECMA-262 5.1, section 15.4.5.1.
 use crate::{NameSet, Object, Properties, Scope, array_index};
 use heap_values::{Content, Found, Kind, Property, Value};
 use std::alloc::Global;

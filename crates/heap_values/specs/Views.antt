@@ -1,5 +1,5 @@
--- What contracts see a heap as (ECMA-262 5.1, sections 8.6 and 10.2): its objects and scopes in the order of creation, and
--- what the run has made in it so far.
+-- What contracts see a heap as (ECMA-262 5.1, sections 8.6 and 10.2): its objects and scopes in the order of creation,
+-- and what the run has made in it so far.
 use Rattle.std.specs.Prelude.{ℕ, List, Option}
 use Rattle.heap_values.specs.declared.ids.Kind.{Kind}
 use Rattle.heap_values.specs.declared.ids.ObjectId.{ObjectId}
@@ -7,7 +7,8 @@ use Rattle.heap_values.specs.declared.ids.ScopeId.{ScopeId}
 use Rattle.heap_values.specs.declared.property.Property.{Property}
 use Rattle.heap_values.specs.declared.value.Value.{Value}
 
--- an object: what it is, its properties by name in the order of creation, its prototype, and the length that an array has
+-- an object: what it is, its properties by name in the order of creation, its prototype, and the length that an array
+-- has
 pub record ObjectView : Type 0 where
   pub kind : Kind
   pub properties : List (List ℕ × Property)

@@ -1,5 +1,5 @@
--- Operators on primitive values (ECMA-262 5.1, sections 11.5 to 11.10), cut to whole numbers. Where both operands are at
--- fault, Range on any side comes first, then Fraction, then not-a-number, then a divisor of 0.
+-- Operators on primitive values (ECMA-262 5.1, sections 11.5 to 11.10), cut to whole numbers. Where both operands are
+-- at fault, Range on any side comes first, then Fraction, then not-a-number, then a divisor of 0.
 use Rattle.std.specs.Prelude.{ℕ, ◌*◌, ◌/◌, ◌%◌, ◌^◌, ℤ, pos, ◌+ℤ◌, ◌-ℤ◌, ◌*ℤ◌, ◌++◌, Bool, true, false, not, ◌&&◌, ◌||◌, Option, Some, None, Result, Ok, Err, if◌then◌else◌, bit_and, bit_or, bit_xor, nat_eq}
 use Rattle.std.specs.Str.{bytes_eq}
 use Rattle.std.specs.Ordering.{nat_cmp, is_lt, int_cmp, int_eq}
@@ -165,8 +165,8 @@ abbrev pub equal_pair : Result (Option ℤ × Option ℤ) ConvertAnswer → Resu
 equal_pair (Ok p) = Ok (equal_sides p.0 p.1)
 equal_pair (Err e) = Err e
 
--- undefined and null are equal, one type goes by the same value, an object differs from a primitive value that it wasn't made,
--- and other primitive values are compared as numbers (11.9.3)
+-- undefined and null are equal, one type goes by the same value, an object differs from a primitive value that it
+-- wasn't made, and other primitive values are compared as numbers (11.9.3)
 abbrev pub loosely_equal : Value → Value → Result Bool ConvertAnswer
 loosely_equal a b = if is_nothing a || is_nothing b then Ok (is_nothing a && is_nothing b)
     else if is_same_type a b then Ok (strictly_equal a b)
@@ -183,8 +183,8 @@ untruth_value (Err e) = Err e
 
 -- ---- the operator table
 
--- the value of an operator on primitive values. `||`, `&&`, `instanceof` and `in` look at more than two such values: they
--- are never asked here
+-- the value of an operator on primitive values. `||`, `&&`, `instanceof` and `in` look at more than two such values:
+-- they are never asked here
 abbrev pub operator_value : BinaryOp → Value → Value → Result Value ConvertAnswer
 operator_value BitOr a b = bitwise bit_or a b
 operator_value BitXor a b = bitwise bit_xor a b

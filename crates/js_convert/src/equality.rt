@@ -1,6 +1,13 @@
 // Equality of values.
 ghost use Rattle.std.specs.Prelude.{◌≡◌};
-ghost use Rattle.js_convert.specs.Operators.{strictly_equal, loosely_equal, is_nothing, is_object, is_same_type, equal_sides};
+ghost use Rattle.js_convert.specs.Operators.{
+  strictly_equal,
+  loosely_equal,
+  is_nothing,
+  is_object,
+  is_same_type,
+  equal_sides,
+};
 
 use crate::ConvertAnswer;
 use crate::operands::both_sides;
@@ -22,8 +29,8 @@ pub fn strict_equals(a: &Value, b: &Value) -> bool
     }
 }
 
-/// Equality that converts (ECMA-262 5.1, section 11.9.3). NumberRange and Fraction come as for `less`, where two values of
-/// different primitive types other than undefined and null are compared.
+/// Equality that converts (ECMA-262 5.1, section 11.9.3). NumberRange and Fraction come as for `less`, where two values
+/// of different primitive types other than undefined and null are compared.
 pub fn loose_equals(a: &Value, b: &Value) -> Result<bool, ConvertAnswer>
     ensures { result ≡ loosely_equal a.now b.now }
 {

@@ -1,7 +1,8 @@
 //! Conversions of primitive values, and operators on them.
 //!
-//! They are those of ECMA-262 edition 5.1, sections 9 and 11.5 to 11.10, cut to whole numbers: a result that is no whole
-//! number has a named refusal. An object has been made a primitive value before it comes here. It stands on the values.
+//! They are those of ECMA-262 edition 5.1, sections 9 and 11.5 to 11.10, cut to whole numbers: a result that is no
+//! whole number has a named refusal. An object has been made a primitive value before it comes here. It stands on the
+//! values.
 #![tactic(auto)]
 
 mod answer;

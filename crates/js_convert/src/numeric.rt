@@ -1,7 +1,22 @@
 // Values as numbers.
 ghost use Rattle.std.specs.Prelude.{◌≡◌, ◌≤◌};
 ghost use Rattle.utf16_text.specs.Letters.{is_space_unit, without_space_before, without_space_behind, trimmed};
-ghost use Rattle.js_convert.specs.Numeric.{numeric_of, truth_of, text_numeric, trimmed_numeric, hex_numeric, decimal_numeric, unsigned_numeric, negated, bounded, is_fraction_text, is_exponent, capped_digits, capped_hex_digits, hex_digit_value};
+ghost use Rattle.js_convert.specs.Numeric.{
+  numeric_of,
+  truth_of,
+  text_numeric,
+  trimmed_numeric,
+  hex_numeric,
+  decimal_numeric,
+  unsigned_numeric,
+  negated,
+  bounded,
+  is_fraction_text,
+  is_exponent,
+  capped_digits,
+  capped_hex_digits,
+  hex_digit_value,
+};
 
 use crate::digits::{are_digits, are_hex_digits, behind_digits};
 use heap_values::Value;

@@ -1,6 +1,17 @@
 // Two operands, and the first refusal of the two.
 ghost use Rattle.std.specs.Prelude.{◌≡◌, Ok};
-ghost use Rattle.js_convert.specs.Operators.{is_range, is_fraction, is_text as is_text_value, unless_refused, numbers_of, both_whole, bit_pair_of, bits_of, sides_of, side_of};
+ghost use Rattle.js_convert.specs.Operators.{
+  is_range,
+  is_fraction,
+  is_text as is_text_value,
+  unless_refused,
+  numbers_of,
+  both_whole,
+  bit_pair_of,
+  bits_of,
+  sides_of,
+  side_of,
+};
 
 use crate::{ConvertAnswer, Numeric, to_number};
 use heap_values::Value;

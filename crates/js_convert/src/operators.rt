@@ -10,8 +10,8 @@ use heap_values::Value;
 use std::alloc::Global;
 use whole_number::Whole;
 
-/// The value of a binary operator on primitive values (ECMA-262 5.1, sections 11.5 to 11.10). `||`, `&&`, `instanceof` and
-/// `in` look at more than two such values: their callers don't ask for them, and they give undefined here.
+/// The value of a binary operator on primitive values (ECMA-262 5.1, sections 11.5 to 11.10). `||`, `&&`, `instanceof`
+/// and `in` look at more than two such values: their callers don't ask for them, and they give undefined here.
 ///
 /// Range on any side is NumberRange; else Fraction on any side, or a quotient that isn't whole, is Fraction; else
 /// not-a-number on any side of arithmetic is NotANumber; else a divisor of 0 is DivisionByZero.

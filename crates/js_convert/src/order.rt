@@ -7,9 +7,9 @@ use crate::operands::both_sides;
 use heap_values::Value;
 use whole_number::Whole;
 
-/// Whether `a` is less than `b` (ECMA-262 5.1, section 11.8.5): two texts by units, other primitive values as numbers. None
-/// where not both are texts and a side is not-a-number. NumberRange comes where a side is too large or infinite, else
-/// Fraction where a side is a numeral with a point or an exponent.
+/// Whether `a` is less than `b` (ECMA-262 5.1, section 11.8.5): two texts by units, other primitive values as numbers.
+/// None where not both are texts and a side is not-a-number. NumberRange comes where a side is too large or infinite,
+/// else Fraction where a side is a numeral with a point or an exponent.
 pub fn less(a: &Value, b: &Value) -> Result<Option<bool>, ConvertAnswer>
     ensures { result ≡ less_of a.now b.now }
 {

@@ -1,4 +1,5 @@
--- Number and text literals at the front of a list of units (ECMA-262 5.1, sections 7.8.3 and 7.8.4, cut to this profile).
+-- Number and text literals at the front of a list of units (ECMA-262 5.1, sections 7.8.3 and 7.8.4, cut to this
+-- profile).
 use Rattle.std.specs.Prelude.{ℕ, zero, suc, ◌+◌, ℤ, pos, List, [], ◌∷◌, ◌++◌, length, take, drop, Option, Some, None, option_to_list, Result, Ok, Err, Bool, ◌&&◌, ◌||◌, not, nat_eq, nat_lt, if◌then◌else◌}
 use Rattle.std.specs.List.{prefix_len}
 use Rattle.utf16_text.specs.Letters.{is_break_unit}
@@ -63,8 +64,8 @@ escape_of u =
     else if nat_eq u 114 then 13
     else u
 
--- What stands behind `\`: a unit, or none for a line's end; and how many units it has. `0` (48) alone is the unit 0, and
--- octal numbers are none of this profile.
+-- What stands behind `\`: a unit, or none for a line's end; and how many units it has. `0` (48) alone is the unit 0,
+-- and octal numbers are none of this profile.
 abbrev pub escape_at : List ℕ → Result (Option ℕ × ℕ) ReadKind
 escape_at [] = Err BadToken
 escape_at (u ∷ us) =
@@ -75,7 +76,8 @@ escape_at (u ∷ us) =
     else if is_digit u then Err Unsupported
     else Ok (Some (escape_of u), 1)
 
--- the unit that a character of a text gives, or none, and how many units it has; u: its first unit, `\` (92) or any other
+-- the unit that a character of a text gives, or none, and how many units it has; u: its first unit, `\` (92) or any
+-- other
 abbrev pub character_at : ℕ → List ℕ → Result (Option ℕ × ℕ) ReadKind
 character_at u us = if nat_eq u 92 then (escape_at us >>= λ x. Ok (x.0, x.1 + 1)) else Ok (Some u, 1)
 

@@ -1,5 +1,5 @@
--- The tokens that a tree is printed as, this project's spelling. Each stands in the first place, and none behind a line's end.
--- An expression that is no leaf stands in brackets, so that no operand depends on what stands around it.
+-- The tokens that a tree is printed as, this project's spelling. Each stands in the first place, and none behind a
+-- line's end. An expression that is no leaf stands in brackets, so that no operand depends on what stands around it.
 use Rattle.std.specs.Prelude.{ℕ, pos, List, [], ◌∷◌, ◌++◌, Some, None, Bool, true, false}
 use Rattle.js_tree.specs.declared.place.Place.{Place}
 use Rattle.js_tree.specs.declared.token.Token.{Token}

@@ -131,8 +131,8 @@ abbrev pub line_ended : Option TokenKind → Bool → List ℕ → Bool
 line_ended None after_line us = after_line || has_break us
 line_ended (Some kind) after_line us = false
 
--- The tokens from a place on, in at most n pieces. after_line: a line ended since the last token; before: the tokens before
--- the place, the last one first.
+-- The tokens from a place on, in at most n pieces. after_line: a line ended since the last token; before: the tokens
+-- before the place, the last one first.
 unfoldable pub tokens_from : ℕ → Place → Bool → List Token → List ℕ → Result (List Token) Refusal
 tokens_from zero place after_line before us = Ok []
 tokens_from (suc n) place after_line before [] = Ok []

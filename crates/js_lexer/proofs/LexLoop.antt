@@ -13,7 +13,8 @@ use Rattle.js_grammar.specs.Tokens.{divides, piece_at, at_place, piece_tokens, l
 abbrev pub with_front : List Token → Result (List Token) Refusal → Result (List Token) Refusal
 with_front front read = read >>= λ ts. Ok (front ++ ts)
 
--- The tokens so far and what the rest gives are the tokens of the source. fuel: above the number of pieces still to come.
+-- The tokens so far and what the rest gives are the tokens of the source. fuel: above the number of pieces still to
+-- come.
 pub record SoFar (all : List Token) (place : Place) (after_line : Bool) (rest source : List ℕ) : Type 0 where
   pub fuel : ℕ
   pub enough : length rest < fuel

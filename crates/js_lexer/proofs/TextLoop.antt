@@ -7,7 +7,8 @@ use Rattle.js_tree.specs.declared.refusal.ReadKind.TheVariants.{BadToken}
 use Rattle.js_grammar.specs.Reading.{◌>>=◌}
 use Rattle.js_grammar.specs.Literals.{character_at, in_front, text_from, text_at}
 
--- What is read before the rest, and what the rest gives, is the whole. fuel: above the number of characters still to come.
+-- What is read before the rest, and what the rest gives, is the whole. fuel: above the number of characters still to
+-- come.
 pub record TextSoFar (quote : ℕ) (text : List ℕ) (n : ℕ) (rest units : List ℕ) : Type 0 where
   pub fuel : ℕ
   pub enough : length rest < fuel

@@ -1,7 +1,7 @@
 //! The lexer of scripts: `lex` gives the tokens of a text, or its first refusal.
 //!
-//! What the tokens of a text are is `tokens_of` of js_grammar, by ECMA-262 edition 5.1, section 7, cut to this profile. It
-//! reads each unit a fixed number of times and copies only what tokens hold. It stands on js_grammar and js_tree.
+//! What the tokens of a text are is `tokens_of` of js_grammar, by ECMA-262 edition 5.1, section 7, cut to this profile.
+//! It reads each unit a fixed number of times and copies only what tokens hold. It stands on js_grammar and js_tree.
 #![tactic(auto)]
 
 mod lexer;

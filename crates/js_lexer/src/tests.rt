@@ -7,7 +7,8 @@ use std::process::Abort;
 use std::test::Fail;
 use utf16_text::Text;
 
-/// A token as `word NAME`, `number N`, `text "T"` or the sign's name, then its place, and `!` where a line ended before it.
+/// A token as `word NAME`, `number N`, `text "T"` or the sign's name, then its place, and `!` where a line ended before
+/// it.
 fn described(alloc: Global, token: &Token) -> Result<String, Fail> {
     let place = token.place;
     let mark = if token.after_line { "!" } else { "" };

@@ -2,7 +2,17 @@
 ghost use Rattle.std.specs.Prelude.{◌≡◌, ◌≤◌, ◌<◌, ◌+◌, ◌^◌, true, length, take, drop};
 ghost use Rattle.std.specs.List.{prefix_len};
 ghost use Rattle.utf16_text.specs.Letters.{is_space_unit};
-ghost use Rattle.js_grammar.specs.Units.{first_passes, begins_with, is_digit, is_hexadecimal, digit_of, is_word_start, is_word_part, has_break, place_after};
+ghost use Rattle.js_grammar.specs.Units.{
+  first_passes,
+  begins_with,
+  is_digit,
+  is_hexadecimal,
+  digit_of,
+  is_word_start,
+  is_word_part,
+  has_break,
+  place_after,
+};
 ghost use Rattle.js_grammar.specs.Tokens.{is_inline};
 
 use js_tree::Place;

@@ -16,8 +16,8 @@ use utf16_text::Text;
 /// How many parts may be nested.
 const NESTING: u32 = 200;
 
-/// The statements that tokens spell, or the first refusal, with room for so many nested parts; `end` is the place after the
-/// last unit.
+/// The statements that tokens spell, with room for so many nested parts; `end` is the place after the last unit.
+/// Refused comes with the first of Unexpected, TooDeep and Unsupported in the order of reading, Memory for want of it.
 #[tactic(auto, unfolding(js_grammar::specs::Statements::script_within))]
 pub fn read_tokens(
     alloc: Global,
@@ -49,8 +49,9 @@ pub fn read_tokens(
     }
 }
 
-/// The script that a text spells, or its first refusal: one of its tokens stands before all others, and then comes the first
-/// of Unexpected, TooDeep and Unsupported in the order of reading (ECMA-262 5.1, sections 7 and 11 to 14, cut to this profile).
+/// The script that a text spells (ECMA-262 5.1, sections 7 and 11 to 14, cut to this profile). Refused comes with the
+/// first refusal: one of its tokens stands before all others, and then comes the first of Unexpected, TooDeep and
+/// Unsupported in the order of reading. Memory comes for want of it.
 pub fn read_script(alloc: Global, source: &Text) -> Result<Script, ReadAnswer>
     requires { length source.now ≤ 1048576 }
     ensures { Gives (λ script. script) result (script_of_text source.now) }

@@ -1,5 +1,6 @@
--- Loops over lists of parts: what a pattern `[one, rest @ ..]` takes apart, and one turn of each loop.
--- A turn of a loop leads from the row before it, `xs`, and the bytes `a` to the row behind it, `rest`; `whole` is what the loop is to write.
+-- Loops over lists of parts: what a pattern `[one, rest @ ..]` takes apart, and one turn of each loop. A turn of a loop
+-- leads from the row before it, `xs`, and the bytes `a` to the row behind it, `rest`; `whole` is what the loop is to
+-- write.
 use Rattle.std.proofs.Common.{◌≡◌, ℕ, ◌-◌, ◌<◌, ◌≤◌, List, [], ◌∷◌, Bool, true, false, Option, length, take, drop, get_or, nat_eq, refl, sym, ap, ◌∙◌, arith}
 use mathlib.Core.Bool.{not}
 use Rattle.std.proofs.Math.Dec.{eqb-suc-zero}

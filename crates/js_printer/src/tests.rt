@@ -1,4 +1,5 @@
-// What trees are printed as. The expected texts are written by hand from the rules in docs/DECISIONS.md, "The language".
+// What trees are printed as. The expected texts are written by hand from the rules in docs/DECISIONS.md, "The
+// language".
 use crate::print;
 use js_tree::{
     AssignOp, BinaryOp, Bound, BoundName, Branch, Catch, Clause, Declared, Expression,

@@ -5,7 +5,18 @@ ghost use Rattle.std.specs.Prelude.{◌≡◌, ◌++◌, ◌∷◌, [], OnOk, Is
 ghost use Rattle.js_tree.specs.declared.token.TokenKind.TheVariants as token;
 ghost use Rattle.js_grammar.specs.Signs as signs;
 ghost use Rattle.js_grammar.specs.Words as words;
-ghost use Rattle.js_grammar.specs.Printing.{printed, sign_token, word_token, keyword_token, unary_token, update_token, binary_token, assign_token, comma_if, else_if};
+ghost use Rattle.js_grammar.specs.Printing.{
+  printed,
+  sign_token,
+  word_token,
+  keyword_token,
+  unary_token,
+  update_token,
+  binary_token,
+  assign_token,
+  comma_if,
+  else_if,
+};
 ghost use Rattle.js_printer.specs.Written.{written};
 
 use js_grammar::Keyword;

@@ -5,8 +5,51 @@ ghost use Rattle.std.specs.Prelude.{◌≡◌, ◌++◌, ◌∷◌, [], OnOk, Op
 ghost use Rattle.js_tree.specs.Tree as tree;
 ghost use Rattle.js_tree.specs.declared.sign.Sign.TheVariants as sign;
 ghost use Rattle.js_tree.specs.Tree.{optional_of, expressions_of, items_of, statements_of};
-ghost use Rattle.js_tree.specs.View.{properties_of, suffix_of, suffixes_of, operands_of, function_of, declarations_of, branches_of, clauses_of, optional_box, optional_statement, start_of, optional_start, target_of, optional_catch};
-ghost use Rattle.js_grammar.specs.Printing.{nowhere, sign_token, keyword_token, expression_tokens, optional_tokens, expressions_tokens, items_tokens, item_tokens, properties_tokens, suffix_tokens, suffixes_tokens, operands_tokens, function_tokens, statement_tokens, statements_tokens, otherwise_tokens, finally_tokens, first_value_tokens, declarations_tokens, branches_tokens, start_tokens, target_tokens, test_tokens, clauses_tokens, catch_tokens, parameters_tokens, own_name_tokens};
+ghost use Rattle.js_tree.specs.View.{
+  properties_of,
+  suffix_of,
+  suffixes_of,
+  operands_of,
+  function_of,
+  declarations_of,
+  branches_of,
+  clauses_of,
+  optional_box,
+  optional_statement,
+  start_of,
+  optional_start,
+  target_of,
+  optional_catch,
+};
+ghost use Rattle.js_grammar.specs.Printing.{
+  nowhere,
+  sign_token,
+  keyword_token,
+  expression_tokens,
+  optional_tokens,
+  expressions_tokens,
+  items_tokens,
+  item_tokens,
+  properties_tokens,
+  suffix_tokens,
+  suffixes_tokens,
+  operands_tokens,
+  function_tokens,
+  statement_tokens,
+  statements_tokens,
+  otherwise_tokens,
+  finally_tokens,
+  first_value_tokens,
+  declarations_tokens,
+  branches_tokens,
+  start_tokens,
+  target_tokens,
+  test_tokens,
+  clauses_tokens,
+  catch_tokens,
+  parameters_tokens,
+  own_name_tokens,
+};
 ghost use Rattle.js_printer.specs.Written.{written};
 
 use crate::token::{

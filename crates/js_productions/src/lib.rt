@@ -1,7 +1,8 @@
-//! What the parser of scripts reads and makes without nested parts: what comes next, operators by their tokens, names and
-//! signs that must stand somewhere, nodes from their parts; and rows of parts, whatever reads a part.
+//! What the parser of scripts reads and makes without nested parts: what comes next, operators by their tokens, names
+//! and signs that must stand somewhere, nodes from their parts; and rows of parts, whatever reads a part.
 //!
-//! Each function gives what js_grammar says of it. It stands on js_lexer, js_grammar and js_tree, and js_parser alone uses it.
+//! Each function gives what js_grammar says of it. It stands on js_lexer, js_grammar and js_tree, and js_parser alone
+//! uses it.
 #![tactic(auto)]
 
 mod around;

@@ -1,7 +1,15 @@
 // What comes next.
 ghost use Rattle.std.specs.Prelude.{◌≡◌, ◌<◌, ◌≤◌, length, IsSome, IsTrue, true};
 ghost use Rattle.js_grammar.specs.Readers.{rest_of, next_sign, next_keyword, is_sign};
-ghost use Rattle.js_grammar.specs.Expressions.{refused_word, is_clause_word, closes, next_name, is_accessor_word, is_accessor, has_name};
+ghost use Rattle.js_grammar.specs.Expressions.{
+  refused_word,
+  is_clause_word,
+  closes,
+  next_name,
+  is_accessor_word,
+  is_accessor,
+  has_name,
+};
 ghost use Rattle.js_grammar.specs.Statements.{ends, semicolon_if, begins_line};
 
 use js_grammar::Keyword;

@@ -1,6 +1,26 @@
 // Nodes from their parts.
 ghost use Rattle.std.specs.Prelude.{◌≡◌, ◌++◌, ◌∷◌, IfOk, IfErr, Some, None, length};
-ghost use Rattle.js_tree.specs.Tree.{New, Function as FunctionNode, Update, Unary, Conditional, Assign, Evaluate, If, DoWhile, While, For, ForIn, Return, Throw, Switch, Try, Declare, optional_of, expressions_of};
+ghost use Rattle.js_tree.specs.Tree.{
+  New,
+  Function as FunctionNode,
+  Update,
+  Unary,
+  Conditional,
+  Assign,
+  Evaluate,
+  If,
+  DoWhile,
+  While,
+  For,
+  ForIn,
+  Return,
+  Throw,
+  Switch,
+  Try,
+  Declare,
+  optional_of,
+  expressions_of,
+};
 ghost use Rattle.js_tree.specs.View.{function_of, branches_of, clauses_of, target_of};
 ghost use Rattle.js_grammar.specs.Readers.{unbound};
 ghost use Rattle.js_grammar.specs.Expressions.{joined, chained, suffixed_by};

@@ -8,7 +8,8 @@ use js_grammar::Turn;
 use js_tree::{Token, TreeList};
 use std::alloc::Global;
 
-/// The parts that turns give one after another, up to the last. It is the row of any reader that the turns read by.
+/// The parts that turns give one after another, up to the last. It is the row of any reader that the turns read by. The
+/// first refusal of a turn ends it, and so does want of memory.
 pub fn row<'a, T: Drop, F: Fn(&'a [Token]) -> Read<'a, Turn<T>>>(
     alloc: Global,
     tokens: &'a [Token],

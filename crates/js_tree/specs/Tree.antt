@@ -1,6 +1,6 @@
--- The trees of scripts (ECMA-262 5.1, sections 11 to 14), as every definition reads and makes them.
--- They have one constructor for each node, with its place first and then its parts as they are written. A list of parts is
--- a type of its own, and so is a part that may be missing, since a type can't hold itself inside `List` or `Option`.
+-- The trees of scripts (ECMA-262 5.1, sections 11 to 14), as every definition reads and makes them. They have one
+-- constructor for each node, with its place first and then its parts as they are written. A list of parts is a type of
+-- its own, and so is a part that may be missing, since a type can't hold itself inside `List` or `Option`.
 use Rattle.std.specs.Prelude.{ℕ, ℤ, List, [], ◌∷◌, Option, Some, None}
 use Rattle.js_tree.specs.declared.place.Place.{Place}
 use Rattle.js_tree.specs.declared.bound.BoundName.{BoundName}

@@ -1,4 +1,4 @@
--- Written by tools/write_tree.py from Tree.antt, src/expression.rt and src/statement.rt: change these, and run the script.
+-- Written by tools/write_tree.py from Tree.antt, src/expression.rt and src/statement.rt: change these, and run it.
 -- The tree that an expression or a statement of the code is, without where it lies in memory.
 use Rattle.std.specs.Prelude.{List, [], ◌∷◌, Option, Some, None, Box}
 use Rattle.std.specs.declared.alloc.Global.{Global}

@@ -1,8 +1,42 @@
 // The size of trees, counted up to a limit.
 ghost use Rattle.std.specs.Prelude.{◌≡◌, ◌+◌, ◌≤◌, min, length};
-ghost use Rattle.js_tree.specs.Size.{expression_size, optional_expression_size, expressions_size, items_size, properties_size, suffix_size, suffixes_size, operands_size, function_size, statement_size, optional_statement_size, statements_size, declarations_size, branches_size, start_size, target_size, clauses_size, catch_size};
+ghost use Rattle.js_tree.specs.Size.{
+  expression_size,
+  optional_expression_size,
+  expressions_size,
+  items_size,
+  properties_size,
+  suffix_size,
+  suffixes_size,
+  operands_size,
+  function_size,
+  statement_size,
+  optional_statement_size,
+  statements_size,
+  declarations_size,
+  branches_size,
+  start_size,
+  target_size,
+  clauses_size,
+  catch_size,
+};
 ghost use Rattle.js_tree.specs.Tree.{optional_of, expressions_of, items_of, statements_of};
-ghost use Rattle.js_tree.specs.View.{properties_of, suffix_of, suffixes_of, operands_of, function_of, declarations_of, branches_of, clauses_of, optional_box, optional_statement, start_of, optional_start, target_of, optional_catch};
+ghost use Rattle.js_tree.specs.View.{
+  properties_of,
+  suffix_of,
+  suffixes_of,
+  operands_of,
+  function_of,
+  declarations_of,
+  branches_of,
+  clauses_of,
+  optional_box,
+  optional_statement,
+  start_of,
+  optional_start,
+  target_of,
+  optional_catch,
+};
 
 use crate::{
     Branch, Catch, Clause, Declared, Expression, ExpressionNode, ForStart, ForTarget, Function,

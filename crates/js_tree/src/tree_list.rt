@@ -1,5 +1,19 @@
 // Lists of parts of a tree.
-ghost use Rattle.std.specs.Prelude.{◌≡◌, ◌<◌, ◌++◌, ◌∷◌, ◌↔◌, [], IsTrue, OnOk, OnErr, length, slice_get, slice_set, Some};
+ghost use Rattle.std.specs.Prelude.{
+  ◌≡◌,
+  ◌<◌,
+  ◌++◌,
+  ◌∷◌,
+  ◌↔◌,
+  [],
+  IsTrue,
+  OnOk,
+  OnErr,
+  length,
+  slice_get,
+  slice_set,
+  Some,
+};
 
 use std::alloc::Global;
 use std::marker::Model;

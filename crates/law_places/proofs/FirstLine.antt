@@ -1,4 +1,5 @@
--- Reading a statement doesn't see whether a line ends before its first token: one lemma for each production that begins with it.
+-- Reading a statement doesn't see whether a line ends before its first token: one lemma for each production that begins
+-- with it.
 use Rattle.std.proofs.Common.{◌≡◌, ℕ, zero, suc, List, ◌∷◌, length, Option, Some, None, Ok, Bool, true, false, refl, ap}
 use Rattle.js_tree.specs.declared.place.Place.{Place}
 use Rattle.js_tree.specs.declared.token.Token.{Token}

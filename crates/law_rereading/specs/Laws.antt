@@ -9,7 +9,8 @@ use Rattle.js_grammar.specs.Printing.{statement_tokens}
 use Rattle.js_grammar.specs.Bare.{bare_statement}
 use Rattle.law_readable.specs.Readable.{AreStatements}
 
--- Where reading can give a tree, its printed tokens are read, with no limit of nesting, as the same tree, places put aside.
+-- Where reading can give a tree, its printed tokens are read, with no limit of nesting, as the same tree, places put
+-- aside.
 abbrev pub PrintedTokensAreReadAgain : Type 0
 PrintedTokensAreReadAgain =
     (end : Place) (body : List StatementTree) → AreStatements at_top (statements_of body)

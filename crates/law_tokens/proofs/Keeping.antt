@@ -12,8 +12,8 @@ use Rattle.js_grammar.specs.Expressions.{name_in}
 use Rattle.js_grammar.specs.Printing.{printed, sign_token, in_round, comma_if}
 use Rattle.law_tokens.specs.BareTokens.{bare_kind}
 
--- Of the tokens `before` those up to `rest` were read, and `out` is printed for them. Each printed token is one that was
--- read, or the text of a name that was read; tokens that are left out of bare ones come and go.
+-- Of the tokens `before` those up to `rest` were read, and `out` is printed for them. Each printed token is one that
+-- was read, or the text of a name that was read; tokens that are left out of bare ones come and go.
 pub data Keeps : List Token → List Token → List Token → Type 0 where
   done : (ts : List Token) → Keeps [] ts ts
   kept : (k : TokenKind) (t : Token) (out before rest : List Token) → t.kind ≡ k → Keeps out before rest → Keeps (printed k ∷ out) (t ∷ before) rest

@@ -1,7 +1,7 @@
 //! The law that reading a script loses, invents and reorders no token but round brackets, commas and semicolons.
 //!
-//! `specs/Laws.antt` states it on the definitions of js_grammar: a script is printed as the tokens that it was read from, as
-//! far as `specs/BareTokens.antt` says. The crate has no code that runs. It stands on js_grammar.
+//! `specs/Laws.antt` states it on the definitions of js_grammar: a script is printed as the tokens that it was read
+//! from, as far as `specs/BareTokens.antt` says. The crate has no code that runs. It stands on js_grammar.
 #![tactic(auto)]
 
 mod laws;

@@ -64,8 +64,8 @@ abbrev pub found_along : ℕ → List ObjectView → ℕ → List ℕ → Found
 found_along zero objects id name = found.Absent
 found_along (suc left) objects id name = found_in (λ p. found_along left objects p name) (slice_get objects id) name
 
--- what the object, or else the nearest prototype that has the name, has under it. Each prototype is older than its object, so
--- there are no more of them than the object's number
+-- what the object, or else the nearest prototype that has the name, has under it. Each prototype is older than its
+-- object, so there are no more of them than the object's number
 abbrev pub found_of : HeapView → ObjectId → List ℕ → Found
 found_of h object name = found_along (suc object.0) h.objects object.0 name
 

@@ -1,6 +1,15 @@
 // The built-in objects are made from the tables.
 ghost use Rattle.std.specs.Prelude.{◌≡◌, IfOk, OnOk, fold, map, length};
-ghost use Rattle.object_heap.specs.Fresh.{built_in_number, entry_content, row_property, blank_object, with_row, row_read, filled_objects, built_in_objects};
+ghost use Rattle.object_heap.specs.Fresh.{
+  built_in_number,
+  entry_content,
+  row_property,
+  blank_object,
+  with_row,
+  row_read,
+  filled_objects,
+  built_in_objects,
+};
 
 use crate::table::{BLANKS, Blank, Entry, ROWS, Row};
 use heap_objects::Object;

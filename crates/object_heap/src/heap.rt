@@ -1,7 +1,44 @@
 // The heap and its calls.
-ghost use Rattle.std.specs.Prelude.{◌≡◌, ◌<◌, ◌≤◌, ◌+◌, ◌⊎◌, length, slice_get, IfOk, IfErr, OnOk, OnErr, ◌++◌, ◌∷◌, []};
+ghost use Rattle.std.specs.Prelude.{
+  ◌≡◌,
+  ◌<◌,
+  ◌≤◌,
+  ◌+◌,
+  ◌⊎◌,
+  length,
+  slice_get,
+  IfOk,
+  IfErr,
+  OnOk,
+  OnErr,
+  ◌++◌,
+  ◌∷◌,
+  [],
+};
 ghost use Rattle.object_heap.specs.Fresh.{fresh_heap, built_in_number};
-ghost use Rattle.object_heap.specs.Heap.{object_at, scope_at, kind_in, prototype_in, length_of, found_of, own_found_in, older_of, made_of, scope_made_of, length_put_at, write_cost_of, put_of, defined_of, deleted_of, own_keys_in, keys_of, parent_in, slot_of, slot_written_of, text_spent_of};
+ghost use Rattle.object_heap.specs.Heap.{
+  object_at,
+  scope_at,
+  kind_in,
+  prototype_in,
+  length_of,
+  found_of,
+  own_found_in,
+  older_of,
+  made_of,
+  scope_made_of,
+  length_put_at,
+  write_cost_of,
+  put_of,
+  defined_of,
+  deleted_of,
+  own_keys_in,
+  keys_of,
+  parent_in,
+  slot_of,
+  slot_written_of,
+  text_spent_of,
+};
 
 use crate::fresh::{make_built_ins, number_of};
 use crate::walks::{add_keys_along, find_along};
@@ -19,7 +56,8 @@ const LONGEST_TEXT: usize = 262_144;
 
 const MOST_TEXT: u64 = 16_777_216;
 
-/// The heap of a run, seen as its objects and scopes in the order of creation, the cells made and the units of text made.
+/// The heap of a run, seen as its objects and scopes in the order of creation, the cells made and the units of text
+/// made.
 #[derive(Drop)]
 pub struct Heap {
     objects: Vec<Object>,
@@ -116,7 +154,8 @@ impl Heap {
         self.cells
     }
 
-    /// What the object, or else the nearest of its prototypes that has the name, has under it (ECMA-262 5.1, section 8.12.2).
+    /// What the object, or else the nearest of its prototypes that has the name, has under it (ECMA-262 5.1, section
+    /// 8.12.2).
     pub fn get(&self, alloc: Global, object: ObjectId, name: &Text) -> Result<Found, Memory>
         ensures { IfOk result (λ found. found ≡ found_of self.now object name.now) }
     {
@@ -175,11 +214,11 @@ impl Heap {
         Ok(ScopeId(at as u32))
     }
 
-    /// Writes a value under a name of the object (ECMA-262 5.1, section 8.12.5). A property that is added is listed and can
-    /// be deleted. A write of an array's `length` sets it; where it falls, the elements from there on are deleted.
+    /// Writes a value under a name of the object (ECMA-262 5.1, section 8.12.5). A property that is added is listed and
+    /// can be deleted. A write of an array's `length` sets it; where it falls, the elements from there on are deleted.
     ///
-    /// ArrayTooLong comes where the length would pass 100,000, HeapFull where the cells would pass 2,000,000, and BadLength
-    /// where a `length` is no whole number from 0.
+    /// ArrayTooLong comes where the length would pass 100,000, HeapFull where the cells would pass 2,000,000, and
+    /// BadLength where a `length` is no whole number from 0.
     pub fn put(
         &mut self,
         alloc: Global,
@@ -205,7 +244,8 @@ impl Heap {
         Ok(())
     }
 
-    /// Adds or replaces a property with these marks. It refuses what `put` refuses, and writes an array's `length` as it.
+    /// Adds or replaces a property with these marks. It refuses what `put` refuses, and writes an array's `length` as
+    /// it.
     pub fn define(
         &mut self,
         alloc: Global,
@@ -266,8 +306,8 @@ impl Heap {
         Ok(())
     }
 
-    /// Deletes the property of this name (ECMA-262 5.1, section 8.12.7). The answer is false exactly where it is there and
-    /// can't be deleted; then it stays.
+    /// Deletes the property of this name (ECMA-262 5.1, section 8.12.7). The answer is false exactly where it is there
+    /// and can't be deleted; then it stays.
     pub fn delete(&mut self, object: ObjectId, name: &Text) -> bool
         ensures answer { result ≡ (deleted_of self.old object name.now).0 }
         ensures after { self.new ≡ (deleted_of self.old object name.now).1 }
@@ -281,7 +321,8 @@ impl Heap {
     }
 
     /// The names that `for`-`in` lists (ECMA-262 5.1, section 12.6.4), in this profile's order: of the object the array
-    /// indexes, rising, then its other names in the order of creation; then those of its prototypes that weren't listed yet.
+    /// indexes, rising, then its other names in the order of creation; then those of its prototypes that weren't listed
+    /// yet.
     pub fn keys(&self, alloc: Global, object: ObjectId) -> Result<TextList, Memory>
         ensures { IfOk result (λ names. names ≡ keys_of self.now object) }
     {
@@ -322,8 +363,8 @@ impl Heap {
         holder.write(slot, value);
     }
 
-    /// Counts a text that is made. StringTooLong comes where it has more than 262,144 units, else TextSpent where the units
-    /// made would pass 16,777,216.
+    /// Counts a text that is made. StringTooLong comes where it has more than 262,144 units, else TextSpent where the
+    /// units made would pass 16,777,216.
     pub fn spend_text(&mut self, units: usize) -> Result<(), HeapAnswer>
         ensures ok { OnOk result (text_spent_of self.old units ≡ Ok self.new) }
         ensures err { IfErr result (λ e. text_spent_of self.old units ≡ Err e) }

@@ -1,5 +1,5 @@
-// The built-in objects of a fresh heap, as data (ECMA-262 5.1, section 15). A property whose native isn't built yet, and one
-// that this profile leaves out, is the mark left out with the text by which a fault names it. None is listed.
+// The built-in objects of a fresh heap, as data (ECMA-262 5.1, section 15). A property whose native isn't built yet,
+// and one that this profile leaves out, is the mark left out with the text by which a fault names it. None is listed.
 use Entry::{LeftOut, Text, Undefined};
 use heap_values::BuiltIn::{
     ArrayPrototype, BooleanPrototype, ErrorPrototype, FunctionPrototype, Global, NumberPrototype,
@@ -23,12 +23,12 @@ pub(crate) enum Entry {
     Undefined,
 }
 
-/// A property of a built-in object: the object, the name, what stands there with its text, and whether it can be deleted.
-/// (It is a tuple because clauses can't see a constant of a struct that holds references.)
+/// A property of a built-in object: the object, the name, what stands there with its text, and whether it can be
+/// deleted. (It is a tuple because clauses can't see a constant of a struct that holds references.)
 pub(crate) type Row = (BuiltIn, &'static str, Entry, &'static str, bool);
 
-/// The built-in objects in the order of creation: `Object.prototype`, `Function.prototype`, the global object, the prototypes
-/// of arrays, texts, numbers and booleans, and those of errors.
+/// The built-in objects in the order of creation: `Object.prototype`, `Function.prototype`, the global object, the
+/// prototypes of arrays, texts, numbers and booleans, and those of errors.
 #[rattlefmt::skip]
 pub(crate) const BLANKS: [Blank; 11] = [
     Blank { kind: Kind::Plain, prototype: None },

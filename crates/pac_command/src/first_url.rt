@@ -1,6 +1,6 @@
-// The first form of a URL, an interim form of this project: `http://`, a host, `/` and a path, in at most 8,192 units. The
-// host is labels of 1 to 63 lower-case ASCII letters parted by single dots, at most 253 in all; the path is any number of
-// ASCII letters, digits, `/`, `-` and `_`.
+// The first form of a URL, an interim form of this project: `http://`, a host, `/` and a path, in at most 8,192 units.
+// The host is labels of 1 to 63 lower-case ASCII letters parted by single dots, at most 253 in all; the path is any
+// number of ASCII letters, digits, `/`, `-` and `_`.
 ghost use Rattle.std.specs.Prelude.{◌≡◌, ◌≤◌, length, option_map, codes};
 ghost use Rattle.std.specs.List.{list_all, prefix_len};
 ghost use Rattle.utf16_text.specs.Decode.{utf16_units};

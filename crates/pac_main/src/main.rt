@@ -1,7 +1,7 @@
 //! The program `pac`: makes the real outside, does what the words ask for and exits with the status.
 //!
-//! All that matters is `pac` of pac_command; here stand the adapters to real files and standard output, a few lines each,
-//! which are the trusted edge: that they do what they say is the machine's matter.
+//! All that matters is `pac` of pac_command; here stand the adapters to real files and standard output, a few lines
+//! each, which are the trusted edge: that they do what they say is the machine's matter.
 #![tactic(auto)]
 
 mod disk_files;

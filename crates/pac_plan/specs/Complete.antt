@@ -66,9 +66,9 @@ IsSureOfNames sure (run plan) = IsSureOfNames sure plan
 IsSureOfNames sure (read kind name next) = (is_listed sure name ≡ true) × ((bytes : List ℕ) → IsSureOfNames sure (next bytes))
 IsSureOfNames sure (talk t answer) = Unit {0}
 
--- Where the files tell and no count of faults rose or stands at its last number, the answer is the plan's, or memory ran out. A count
--- doesn't rise where its port is sure: the files of each name, the link of one move more than it tells at the end, the sink of the
--- text that is to be written.
+-- Where the files tell and no count of faults rose or stands at its last number, the answer is the plan's, or memory
+-- ran out. A count doesn't rise where its port is sure: the files of each name, the link of one move more than it tells
+-- at the end, the sink of the text that is to be written.
 pub record IsComplete {T : Type 0} (K : Talks T) (plan : Plan T) (made : Option Answer) (old new : Outside) (out out' : SinkState) (given : Status) : Type 0 where
   pub completed : (told : FilesTold) → old.files.told ≡ Some told
       → (Rose old.files.faults new.files.faults → ⊥) → (Rose old.link.faults new.link.faults → ⊥) → (Rose out.faults out'.faults → ⊥)

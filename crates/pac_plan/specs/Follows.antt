@@ -45,7 +45,8 @@ FollowsProgram K (at_once plan) old new made = Follows K plan old new made
 FollowsProgram K (timed next) old new made =
     ((m : ℤ) × Follows K (next m) (record old { clock = with_moment m old.clock }) new made) ⊎ ((new ≡ old) × (made ≡ None))
 
--- the text is written whole, or a fault of the sink stands in the answer's place with a front of it written; without memory nothing is written
+-- the text is written whole, or a fault of the sink stands in the answer's place with a front of it written; without
+-- memory nothing is written
 abbrev pub Gives : Option Answer → Status → SinkState → SinkState → Type 0
 Gives None given out out' = (given ≡ status.Memory) × (out' ≡ out)
 Gives (Some answer) given out out' =

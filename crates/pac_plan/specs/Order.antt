@@ -33,8 +33,8 @@ pub record ReadsInTurn (names : List (List ℕ)) (told : FilesTold) (now : Optio
   pub front : map name_of reads ++ left ≡ names
   pub last : FailsAtTheLast reads
 
--- Where the sink's count rose, the answer is WriteFault. Where it neither rose nor stands at its last number and the files' rose, it is
--- ReadFault, and where neither of both did and the link's rose, LinkFault; or memory ran out.
+-- Where the sink's count rose, the answer is WriteFault. Where it neither rose nor stands at its last number and the
+-- files' rose, it is ReadFault, and where neither of both did and the link's rose, LinkFault; or memory ran out.
 pub record KeepsOrder {T : Type 0} (plan : Plan T) (old new : Outside) (out out' : SinkState) (given : Status) : Type 0 where
   pub sink : out.faults < out'.faults → given ≡ status.WriteFault
   pub files : old.files.faults < new.files.faults → (Rose out.faults out'.faults → ⊥) → (given ≡ status.ReadFault) ⊎ (given ≡ status.Memory)

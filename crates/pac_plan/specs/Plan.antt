@@ -45,14 +45,15 @@ pub data End : Type 0 where
   faulted : End
   unfinished : End
 
--- what a talk does to the link's count of faults: it rose exactly where the talk faulted, and never within the moves that the link is sure of
+-- what a talk does to the link's count of faults: it rose exactly where the talk faulted, and never within the moves
+-- that the link is sure of
 abbrev pub CountsFaults : End → LinkState → LinkState → Type 0
 CountsFaults whole old new = new.faults ≡ old.faults
 CountsFaults faulted old new = Rose old.faults new.faults × (has_move new ≡ false)
 CountsFaults unfinished old new = new.faults ≡ old.faults
 
--- What the talks that T describes do: from the old outside to the new one, with an end and a log. Whatever they do, they touch
--- neither files nor clock, count the link's faults, and may end for want of memory before they begin.
+-- What the talks that T describes do: from the old outside to the new one, with an end and a log. Whatever they do,
+-- they touch neither files nor clock, count the link's faults, and may end for want of memory before they begin.
 pub record Talks (T : Type 0) : Type 1 where
   pub Talked : T → Outside → End → List Move → Outside → Type 0
   pub files_kept : (t : T) (old : Outside) (end : End) (log : List Move) (new : Outside) → Talked t old end log new → new.files ≡ old.files

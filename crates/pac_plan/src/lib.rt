@@ -1,7 +1,7 @@
 //! The plan of the top call: what a command does with the outside, step by step, and what following it leaves.
 //!
-//! A command is a plan, plain data over its words; this crate says once, for all commands, which answers, reads, runs and
-//! bytes following a plan can leave, and proves the rules of order and completeness for every plan. It stands on
+//! A command is a plan, plain data over its words; this crate says once, for all commands, which answers, reads, runs
+//! and bytes following a plan can leave, and proves the rules of order and completeness for every plan. It stands on
 //! pac_ports, whose states it speaks of.
 #![tactic(auto)]
 

@@ -1,14 +1,14 @@
 // Laws over the definitions of reading, of printing and of tokens.
 ghost use Rattle.round_trip.specs.Laws.{PrintingIsReadBack, TokensAreKept};
 
-/// A script that a text spells is printed as a text that spells the same script, places put aside. Brackets nest deeper in the
-/// printed text, so it is read without the limit of nesting.
+/// A script that a text spells is printed as a text that spells the same script, places put aside. Brackets nest deeper
+/// in the printed text, so it is read without the limit of nesting.
 pub fn printing_is_read_back()
     ensures { PrintingIsReadBack }
 {}
 
-/// What a text spells is printed as the tokens of the text: none is lost, invented or reordered but round brackets, commas and
-/// semicolons.
+/// What a text spells is printed as the tokens of the text: none is lost, invented or reordered but round brackets,
+/// commas and semicolons.
 pub fn tokens_are_kept()
     ensures { TokensAreKept }
 {}

@@ -1,5 +1,5 @@
-// What scripts read as, by what they are printed as, and each refusal at its place. The cases are those of ECMA-262 5.1,
-// sections 7.9 and 11 to 14, as the profile in docs/LANGUAGE.md has them.
+// What scripts read as, by what they are printed as, and each refusal at its place. The cases are those of ECMA-262
+// 5.1, sections 7.9 and 11 to 14, as the profile in docs/LANGUAGE.md has them.
 use js_parser::read_script;
 use js_printer::print;
 use js_tree::{ReadAnswer, Script};

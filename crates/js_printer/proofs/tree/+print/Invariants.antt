@@ -1,4 +1,5 @@
--- The measure of each call is the size of its tree, with room for the call between a node and its parts; a loop has written what it passed.
+-- The measure of each call is the size of its tree, with room for the call between a node and its parts; a loop has
+-- written what it passed.
 use Rattle.std.proofs.Common.{◌≡◌, ◌+◌, ◌≤◌, ◌*◌, length}
 use Rattle.js_tree.specs.Size.{expression_size, optional_expression_size, expressions_size, items_size, properties_size, suffix_size, suffixes_size, operands_size, function_size, statement_size, optional_statement_size, statements_size, declarations_size, branches_size, start_size, target_size, clauses_size, catch_size}
 use Rattle.js_tree.specs.Tree.{optional_of, expressions_of, items_of, statements_of}

@@ -1,5 +1,6 @@
--- How a `TreeList` holds its items, which the toolchain asks of a list through which a type reaches itself. The names with `the_` are
--- those that it asks for; what stands under them follows from the view: the list of the items of the one `Vec`.
+-- How a `TreeList` holds its items, which the toolchain asks of a list through which a type reaches itself. The names
+-- with `the_` are those that it asks for; what stands under them follows from the view: the list of the items of the
+-- one `Vec`.
 use mathlib.Core.Path.{◌≡◌, refl, sym}
 use mathlib.Core.List.{List, []}
 use mathlib.Core.Former.{Former, this, list, via, children}
