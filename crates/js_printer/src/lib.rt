@@ -4,10 +4,12 @@
 //! statement of the script. It stands on js_tree and js_grammar.
 #![tactic(auto)]
 
+mod expression;
+mod printer;
 mod script;
+mod statement;
 #[cfg(test)]
 mod tests;
 mod token;
-mod tree;
 
 pub use script::print;

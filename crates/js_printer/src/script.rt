@@ -3,7 +3,7 @@ ghost use Rattle.std.specs.Prelude.{◌≡◌, ◌++◌, OnOk, IfOk};
 ghost use Rattle.js_grammar.specs.Printing.{statement_tokens};
 ghost use Rattle.js_grammar.specs.Spelling.{line, printed_bytes};
 
-use crate::tree::put_statement;
+use crate::printer::Printer;
 use js_tree::{Script, Statement};
 use std::alloc::Global;
 use utf16_text::Memory;
@@ -13,32 +13,34 @@ use utf16_text::Memory;
 pub fn print(alloc: Global, script: &Script) -> Result<Vec<u8>, Memory>
     ensures printed { IfOk result (λ bytes. bytes.items ≡ printed_bytes script.now) }
 {
-    let mut out = Vec::new(alloc);
-    put_lines(alloc, &mut out, script.body().as_slice())?;
-    Ok(out)
+    let mut printer = Printer::new(alloc);
+    printer.put_lines(script.body().as_slice())?;
+    Ok(printer.into_bytes())
 }
 
-#[tactic(auto, using(crate::proofs::Lines::line_put))]
-fn put_lines(alloc: Global, out: &mut Vec<u8>, all: &[Statement]) -> Result<(), Memory>
-    ensures { OnOk result (out.new.items ≡ out.old.items ++ printed_bytes all.now) }
-{
-    let mut left = all;
-    while let [one, rest @ ..] = left {
-        put_line(alloc, out, one)?;
-        left = rest;
+impl Printer {
+    #[tactic(auto, using(crate::proofs::Lines::line_put))]
+    fn put_lines(&mut self, all: &[Statement]) -> Result<(), Memory>
+        ensures { OnOk result (self.new ≡ self.old ++ printed_bytes all.now) }
+    {
+        let mut left = all;
+        while let [one, rest @ ..] = left {
+            self.put_line(one)?;
+            left = rest;
+        }
+        Ok(())
     }
-    Ok(())
-}
 
-#[tactic(auto, using(crate::proofs::Lines::line_written))]
-fn put_line(alloc: Global, out: &mut Vec<u8>, one: &Statement) -> Result<(), Memory>
-    ensures { OnOk result (out.new.items ≡ out.old.items ++ line (statement_tokens one.now)) }
-{
-    let start = out.len();
-    put_statement(alloc, out, one)?;
-    // A line feed stands in place of the space behind the last token.
-    let end = out.len().saturating_sub(1).max(start);
-    out.truncate(end);
-    out.push(b'\n')?;
-    Ok(())
+    #[tactic(auto, using(crate::proofs::Lines::line_written))]
+    fn put_line(&mut self, one: &Statement) -> Result<(), Memory>
+        ensures { OnOk result (self.new ≡ self.old ++ line (statement_tokens one.now)) }
+    {
+        let start = self.out.len();
+        self.put_statement(one)?;
+        // A line feed stands in place of the space behind the last token.
+        let end = self.out.len().saturating_sub(1).max(start);
+        self.out.truncate(end);
+        self.out.push(b'\n')?;
+        Ok(())
+    }
 }

@@ -19,9 +19,9 @@ ghost use Rattle.js_grammar.specs.Printing.{
 };
 ghost use Rattle.js_printer.specs.Written.{written};
 
+use crate::printer::Printer;
 use js_grammar::Keyword;
 use js_tree::{AssignOp, BinaryOp, Sign, UnaryOp, UpdateOp};
-use std::alloc::Global;
 use utf16_text::{Memory, Text};
 use whole_number::Whole;
 
@@ -123,145 +123,144 @@ fn keyword_spelling(keyword: Keyword) -> &'static str
     }
 }
 
-/// Writes the spelling of a token, and a space behind it.
-fn put_spelling(out: &mut Vec<u8>, spelling: &[u8]) -> Result<(), Memory>
-    ensures { OnOk result (out.new.items ≡ out.old.items ++ (spelling.now ++ 32 ∷ [])) }
-{
-    out.extend_from_slice(spelling)?;
-    out.push(b' ')?;
-    Ok(())
-}
-
-pub fn put_sign(out: &mut Vec<u8>, sign: Sign) -> Result<(), Memory>
-    ensures { OnOk result (out.new.items ≡ written out.old.items (sign_token sign ∷ [])) }
-{
-    put_spelling(out, sign_spelling(sign).as_bytes())?;
-    Ok(())
-}
-
-#[tactic(auto, using(crate::proofs::Tokens::keyword_escaped), unfolding(crate::specs::Written::written))]
-pub fn put_keyword(out: &mut Vec<u8>, keyword: Keyword) -> Result<(), Memory>
-    ensures { OnOk result (out.new.items ≡ written out.old.items (keyword_token keyword ∷ [])) }
-{
-    put_spelling(out, keyword_spelling(keyword).as_bytes())?;
-    Ok(())
-}
-
-/// Writes a word. A word that was read is ASCII; any other is written with its escape.
-pub fn put_word(alloc: Global, out: &mut Vec<u8>, word: &Text) -> Result<(), Memory>
-    ensures { OnOk result (out.new.items ≡ written out.old.items (word_token word.now ∷ [])) }
-{
-    word.escape_into(alloc, out, false)?;
-    out.push(b' ')?;
-    Ok(())
-}
-
-pub fn put_text(alloc: Global, out: &mut Vec<u8>, text: &Text) -> Result<(), Memory>
-    ensures { OnOk result (out.new.items ≡ written out.old.items (printed (token.Text text.now) ∷ [])) }
-{
-    out.push(b'"')?;
-    text.escape_into(alloc, out, true)?;
-    out.extend_from_slice(b"\" ")?;
-    Ok(())
-}
-
-pub fn put_number(out: &mut Vec<u8>, number: Whole) -> Result<(), Memory>
-    ensures { OnOk result (out.new.items ≡ written out.old.items (printed (token.Number number) ∷ [])) }
-{
-    let mut digits = [0; 17];
-    let count = number.write_text(&mut digits);
-    put_spelling(out, &digits[..count])?;
-    Ok(())
-}
-
-pub fn put_unary(out: &mut Vec<u8>, op: UnaryOp) -> Result<(), Memory>
-    ensures { OnOk result (out.new.items ≡ written out.old.items (unary_token op ∷ [])) }
-{
-    match op {
-        UnaryOp::Delete => put_keyword(out, Keyword::Delete),
-        UnaryOp::Void => put_keyword(out, Keyword::Void),
-        UnaryOp::TypeOf => put_keyword(out, Keyword::TypeOf),
-        UnaryOp::Plus => put_sign(out, Sign::Plus),
-        UnaryOp::Minus => put_sign(out, Sign::Minus),
-        UnaryOp::BitNot => put_sign(out, Sign::Tilde),
-        UnaryOp::Not => put_sign(out, Sign::Exclamation),
+impl Printer {
+    /// Writes the spelling of a token, and a space behind it.
+    fn put_spelling(&mut self, spelling: &[u8]) -> Result<(), Memory>
+        ensures { OnOk result (self.new ≡ self.old ++ (spelling.now ++ 32 ∷ [])) }
+    {
+        self.out.extend_from_slice(spelling)?;
+        self.out.push(b' ')?;
+        Ok(())
     }
-}
 
-pub fn put_update(out: &mut Vec<u8>, op: UpdateOp) -> Result<(), Memory>
-    ensures { OnOk result (out.new.items ≡ written out.old.items (update_token op ∷ [])) }
-{
-    match op {
-        UpdateOp::Increment => put_sign(out, Sign::PlusPlus),
-        UpdateOp::Decrement => put_sign(out, Sign::MinusMinus),
+    pub fn put_sign(&mut self, sign: Sign) -> Result<(), Memory>
+        ensures { OnOk result (self.new ≡ written self.old (sign_token sign ∷ [])) }
+    {
+        self.put_spelling(sign_spelling(sign).as_bytes())
     }
-}
 
-pub fn put_binary(out: &mut Vec<u8>, op: BinaryOp) -> Result<(), Memory>
-    ensures { OnOk result (out.new.items ≡ written out.old.items (binary_token op ∷ [])) }
-{
-    match op {
-        BinaryOp::Or => put_sign(out, Sign::OrOr),
-        BinaryOp::And => put_sign(out, Sign::AndAnd),
-        BinaryOp::BitOr => put_sign(out, Sign::Bar),
-        BinaryOp::BitXor => put_sign(out, Sign::Caret),
-        BinaryOp::BitAnd => put_sign(out, Sign::Ampersand),
-        BinaryOp::Equal => put_sign(out, Sign::Equal),
-        BinaryOp::NotEqual => put_sign(out, Sign::NotEqual),
-        BinaryOp::StrictEqual => put_sign(out, Sign::StrictEqual),
-        BinaryOp::StrictNotEqual => put_sign(out, Sign::StrictNotEqual),
-        BinaryOp::Less => put_sign(out, Sign::Less),
-        BinaryOp::Greater => put_sign(out, Sign::Greater),
-        BinaryOp::LessEqual => put_sign(out, Sign::LessEqual),
-        BinaryOp::GreaterEqual => put_sign(out, Sign::GreaterEqual),
-        BinaryOp::InstanceOf => put_keyword(out, Keyword::InstanceOf),
-        BinaryOp::In => put_keyword(out, Keyword::In),
-        BinaryOp::ShiftLeft => put_sign(out, Sign::ShiftLeft),
-        BinaryOp::ShiftRight => put_sign(out, Sign::ShiftRight),
-        BinaryOp::UnsignedShiftRight => put_sign(out, Sign::UnsignedShiftRight),
-        BinaryOp::Add => put_sign(out, Sign::Plus),
-        BinaryOp::Subtract => put_sign(out, Sign::Minus),
-        BinaryOp::Multiply => put_sign(out, Sign::Star),
-        BinaryOp::Divide => put_sign(out, Sign::Slash),
-        BinaryOp::Remainder => put_sign(out, Sign::Percent),
+    #[tactic(auto, using(crate::proofs::Tokens::keyword_escaped), unfolding(crate::specs::Written::written))]
+    pub fn put_keyword(&mut self, keyword: Keyword) -> Result<(), Memory>
+        ensures { OnOk result (self.new ≡ written self.old (keyword_token keyword ∷ [])) }
+    {
+        self.put_spelling(keyword_spelling(keyword).as_bytes())
     }
-}
 
-pub fn put_assign(out: &mut Vec<u8>, op: AssignOp) -> Result<(), Memory>
-    ensures { OnOk result (out.new.items ≡ written out.old.items (assign_token op ∷ [])) }
-{
-    match op {
-        AssignOp::Set => put_sign(out, Sign::Assign),
-        AssignOp::Add => put_sign(out, Sign::PlusAssign),
-        AssignOp::Subtract => put_sign(out, Sign::MinusAssign),
-        AssignOp::Multiply => put_sign(out, Sign::StarAssign),
-        AssignOp::Divide => put_sign(out, Sign::SlashAssign),
-        AssignOp::Remainder => put_sign(out, Sign::PercentAssign),
-        AssignOp::ShiftLeft => put_sign(out, Sign::ShiftLeftAssign),
-        AssignOp::ShiftRight => put_sign(out, Sign::ShiftRightAssign),
-        AssignOp::UnsignedShiftRight => put_sign(out, Sign::UnsignedShiftRightAssign),
-        AssignOp::BitAnd => put_sign(out, Sign::AmpersandAssign),
-        AssignOp::BitOr => put_sign(out, Sign::BarAssign),
-        AssignOp::BitXor => put_sign(out, Sign::CaretAssign),
+    /// Writes a word. A word that was read is ASCII; any other is written with its escape.
+    pub fn put_word(&mut self, word: &Text) -> Result<(), Memory>
+        ensures { OnOk result (self.new ≡ written self.old (word_token word.now ∷ [])) }
+    {
+        word.escape_into(self.alloc, &mut self.out, false)?;
+        self.out.push(b' ')?;
+        Ok(())
     }
-}
 
-/// Writes a comma, where there is more.
-pub fn put_comma_if(out: &mut Vec<u8>, more: bool) -> Result<(), Memory>
-    ensures { OnOk result (out.new.items ≡ written out.old.items (comma_if more)) }
-{
-    if more {
-        put_sign(out, Sign::Comma)?;
+    pub fn put_text(&mut self, text: &Text) -> Result<(), Memory>
+        ensures { OnOk result (self.new ≡ written self.old (printed (token.Text text.now) ∷ [])) }
+    {
+        self.out.push(b'"')?;
+        text.escape_into(self.alloc, &mut self.out, true)?;
+        self.out.extend_from_slice(b"\" ")?;
+        Ok(())
     }
-    Ok(())
-}
 
-/// Writes `else`, where there is more.
-pub fn put_else_if(out: &mut Vec<u8>, more: bool) -> Result<(), Memory>
-    ensures { OnOk result (out.new.items ≡ written out.old.items (else_if more)) }
-{
-    if more {
-        put_keyword(out, Keyword::Else)?;
+    pub fn put_number(&mut self, number: Whole) -> Result<(), Memory>
+        ensures { OnOk result (self.new ≡ written self.old (printed (token.Number number) ∷ [])) }
+    {
+        let mut digits = [0; 17];
+        let count = number.write_text(&mut digits);
+        self.put_spelling(&digits[..count])
     }
-    Ok(())
+
+    pub fn put_unary(&mut self, op: UnaryOp) -> Result<(), Memory>
+        ensures { OnOk result (self.new ≡ written self.old (unary_token op ∷ [])) }
+    {
+        match op {
+            UnaryOp::Delete => self.put_keyword(Keyword::Delete),
+            UnaryOp::Void => self.put_keyword(Keyword::Void),
+            UnaryOp::TypeOf => self.put_keyword(Keyword::TypeOf),
+            UnaryOp::Plus => self.put_sign(Sign::Plus),
+            UnaryOp::Minus => self.put_sign(Sign::Minus),
+            UnaryOp::BitNot => self.put_sign(Sign::Tilde),
+            UnaryOp::Not => self.put_sign(Sign::Exclamation),
+        }
+    }
+
+    pub fn put_update(&mut self, op: UpdateOp) -> Result<(), Memory>
+        ensures { OnOk result (self.new ≡ written self.old (update_token op ∷ [])) }
+    {
+        match op {
+            UpdateOp::Increment => self.put_sign(Sign::PlusPlus),
+            UpdateOp::Decrement => self.put_sign(Sign::MinusMinus),
+        }
+    }
+
+    pub fn put_binary(&mut self, op: BinaryOp) -> Result<(), Memory>
+        ensures { OnOk result (self.new ≡ written self.old (binary_token op ∷ [])) }
+    {
+        match op {
+            BinaryOp::Or => self.put_sign(Sign::OrOr),
+            BinaryOp::And => self.put_sign(Sign::AndAnd),
+            BinaryOp::BitOr => self.put_sign(Sign::Bar),
+            BinaryOp::BitXor => self.put_sign(Sign::Caret),
+            BinaryOp::BitAnd => self.put_sign(Sign::Ampersand),
+            BinaryOp::Equal => self.put_sign(Sign::Equal),
+            BinaryOp::NotEqual => self.put_sign(Sign::NotEqual),
+            BinaryOp::StrictEqual => self.put_sign(Sign::StrictEqual),
+            BinaryOp::StrictNotEqual => self.put_sign(Sign::StrictNotEqual),
+            BinaryOp::Less => self.put_sign(Sign::Less),
+            BinaryOp::Greater => self.put_sign(Sign::Greater),
+            BinaryOp::LessEqual => self.put_sign(Sign::LessEqual),
+            BinaryOp::GreaterEqual => self.put_sign(Sign::GreaterEqual),
+            BinaryOp::InstanceOf => self.put_keyword(Keyword::InstanceOf),
+            BinaryOp::In => self.put_keyword(Keyword::In),
+            BinaryOp::ShiftLeft => self.put_sign(Sign::ShiftLeft),
+            BinaryOp::ShiftRight => self.put_sign(Sign::ShiftRight),
+            BinaryOp::UnsignedShiftRight => self.put_sign(Sign::UnsignedShiftRight),
+            BinaryOp::Add => self.put_sign(Sign::Plus),
+            BinaryOp::Subtract => self.put_sign(Sign::Minus),
+            BinaryOp::Multiply => self.put_sign(Sign::Star),
+            BinaryOp::Divide => self.put_sign(Sign::Slash),
+            BinaryOp::Remainder => self.put_sign(Sign::Percent),
+        }
+    }
+
+    pub fn put_assign(&mut self, op: AssignOp) -> Result<(), Memory>
+        ensures { OnOk result (self.new ≡ written self.old (assign_token op ∷ [])) }
+    {
+        match op {
+            AssignOp::Set => self.put_sign(Sign::Assign),
+            AssignOp::Add => self.put_sign(Sign::PlusAssign),
+            AssignOp::Subtract => self.put_sign(Sign::MinusAssign),
+            AssignOp::Multiply => self.put_sign(Sign::StarAssign),
+            AssignOp::Divide => self.put_sign(Sign::SlashAssign),
+            AssignOp::Remainder => self.put_sign(Sign::PercentAssign),
+            AssignOp::ShiftLeft => self.put_sign(Sign::ShiftLeftAssign),
+            AssignOp::ShiftRight => self.put_sign(Sign::ShiftRightAssign),
+            AssignOp::UnsignedShiftRight => self.put_sign(Sign::UnsignedShiftRightAssign),
+            AssignOp::BitAnd => self.put_sign(Sign::AmpersandAssign),
+            AssignOp::BitOr => self.put_sign(Sign::BarAssign),
+            AssignOp::BitXor => self.put_sign(Sign::CaretAssign),
+        }
+    }
+
+    /// Writes a comma, where there is more.
+    pub fn put_comma_if(&mut self, more: bool) -> Result<(), Memory>
+        ensures { OnOk result (self.new ≡ written self.old (comma_if more)) }
+    {
+        if more {
+            self.put_sign(Sign::Comma)?;
+        }
+        Ok(())
+    }
+
+    /// Writes `else`, where there is more.
+    pub fn put_else_if(&mut self, more: bool) -> Result<(), Memory>
+        ensures { OnOk result (self.new ≡ written self.old (else_if more)) }
+    {
+        if more {
+            self.put_keyword(Keyword::Else)?;
+        }
+        Ok(())
+    }
 }

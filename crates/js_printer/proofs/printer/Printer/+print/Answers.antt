@@ -6,7 +6,7 @@ use Rattle.js_tree.specs.View.{properties_of, suffixes_of, operands_of, declarat
 use Rattle.js_grammar.specs.Printing.{expression_tokens, expressions_tokens, items_tokens, properties_tokens, suffixes_tokens, operands_tokens, statements_tokens, declarations_tokens, branches_tokens, clauses_tokens}
 use Rattle.js_printer.specs.Written.{written}
 use Rattle.js_printer.proofs.Rows.{first_and_rest, all_written, expressions_turn, items_turn, properties_turn, suffixes_turn, operands_turn, statements_turn, declarations_turn, branches_turn, clauses_turn}
-use Rattle.js_printer.proofs.tree.+print.Goals as goal
+use Rattle.js_printer.proofs.printer.Printer.+print.Goals as goal
 
 pub put_expressions-loop-left-preserved : goal.put_expressions-loop-left-preserved
 put_expressions-loop-left-preserved t c =
@@ -74,7 +74,7 @@ put_branches-returns t c = all_written (λ xs. branches_size (branches_of xs)) (
 
 pub put_clauses-loop-left-preserved : goal.put_clauses-loop-left-preserved
 put_clauses-loop-left-preserved t c =
-    clauses_turn _ _ c.one-item.result _ _ _ _ _ (first_and_rest c.loop-left.left.now c.one-item.result c.in-len1-up.len_at_least c.one-item.is) c.in_ok-put_test.ensures (c.in_ok-put_statements.ensures ∙ ap (λ xs. written c.put_test.new.out.items (statements_tokens (statements_of xs))) c.as_slice.ensures) c.loop-left.invariant
+    clauses_turn _ _ c.one-item.result _ _ _ _ _ (first_and_rest c.loop-left.left.now c.one-item.result c.in-len1-up.len_at_least c.one-item.is) c.in_ok-put_test.ensures (c.in_ok-put_statements.ensures ∙ ap (λ xs. written c.put_test.new.self (statements_tokens (statements_of xs))) c.as_slice.ensures) c.loop-left.invariant
 
 pub put_clauses-returns : goal.put_clauses-returns
 unfolding expression_tokens

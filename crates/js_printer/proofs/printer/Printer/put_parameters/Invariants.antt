@@ -2,10 +2,10 @@
 use Rattle.std.proofs.Common.{◌≡◌, ◌≤◌, length}
 use Rattle.js_grammar.specs.Printing.{parameters_tokens}
 use Rattle.js_printer.specs.Written.{written}
-use Rattle.js_printer.proofs.tree.put_parameters.Given as goal
+use Rattle.js_printer.proofs.printer.Printer.put_parameters.Given as goal
 
 abbrev pub invariant-loop-left : goal.invariant-loop-left
-invariant-loop-left l = (length l.left ≤ length l.all) × (written l.out.items (parameters_tokens l.left) ≡ written l.fn.out.items (parameters_tokens l.all))
+invariant-loop-left l = (length l.left ≤ length l.all) × (written l.self (parameters_tokens l.left) ≡ written l.fn.self (parameters_tokens l.all))
 
 abbrev pub decreases-loop-left : goal.decreases-loop-left
 decreases-loop-left l = length l.left

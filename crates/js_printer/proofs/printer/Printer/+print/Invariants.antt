@@ -6,7 +6,7 @@ use Rattle.js_tree.specs.Tree.{optional_of, expressions_of, items_of, statements
 use Rattle.js_tree.specs.View.{properties_of, suffix_of, suffixes_of, operands_of, function_of, declarations_of, branches_of, clauses_of, optional_box, optional_statement, start_of, optional_start, target_of, optional_catch}
 use Rattle.js_grammar.specs.Printing.{expressions_tokens, items_tokens, properties_tokens, suffixes_tokens, operands_tokens, statements_tokens, declarations_tokens, branches_tokens, clauses_tokens}
 use Rattle.js_printer.specs.Written.{written}
-use Rattle.js_printer.proofs.tree.+print.Given as goal
+use Rattle.js_printer.proofs.printer.Printer.+print.Given as goal
 
 abbrev pub decreases-put_expression : goal.decreases-put_expression
 decreases-put_expression l = 3 * expression_size l.e.now
@@ -54,7 +54,7 @@ abbrev pub decreases-put_expressions : goal.decreases-put_expressions
 decreases-put_expressions l = 3 * expressions_size (expressions_of l.all.now)
 
 abbrev pub invariant-put_expressions-loop-left : goal.invariant-put_expressions-loop-left
-invariant-put_expressions-loop-left l = (expressions_size (expressions_of l.left) ≤ expressions_size (expressions_of l.all)) × (written l.out.items (expressions_tokens (expressions_of l.left)) ≡ written l.fn.out.items (expressions_tokens (expressions_of l.all)))
+invariant-put_expressions-loop-left l = (expressions_size (expressions_of l.left) ≤ expressions_size (expressions_of l.all)) × (written l.self (expressions_tokens (expressions_of l.left)) ≡ written l.fn.self (expressions_tokens (expressions_of l.all)))
 
 abbrev pub decreases-put_expressions-loop-left : goal.decreases-put_expressions-loop-left
 decreases-put_expressions-loop-left l = length l.left
@@ -63,7 +63,7 @@ abbrev pub decreases-put_items : goal.decreases-put_items
 decreases-put_items l = 3 * items_size (items_of l.all.now)
 
 abbrev pub invariant-put_items-loop-left : goal.invariant-put_items-loop-left
-invariant-put_items-loop-left l = (items_size (items_of l.left) ≤ items_size (items_of l.all)) × (written l.out.items (items_tokens (items_of l.left)) ≡ written l.fn.out.items (items_tokens (items_of l.all)))
+invariant-put_items-loop-left l = (items_size (items_of l.left) ≤ items_size (items_of l.all)) × (written l.self (items_tokens (items_of l.left)) ≡ written l.fn.self (items_tokens (items_of l.all)))
 
 abbrev pub decreases-put_items-loop-left : goal.decreases-put_items-loop-left
 decreases-put_items-loop-left l = length l.left
@@ -72,7 +72,7 @@ abbrev pub decreases-put_properties : goal.decreases-put_properties
 decreases-put_properties l = 3 * properties_size (properties_of l.all.now)
 
 abbrev pub invariant-put_properties-loop-left : goal.invariant-put_properties-loop-left
-invariant-put_properties-loop-left l = (properties_size (properties_of l.left) ≤ properties_size (properties_of l.all)) × (written l.out.items (properties_tokens (properties_of l.left)) ≡ written l.fn.out.items (properties_tokens (properties_of l.all)))
+invariant-put_properties-loop-left l = (properties_size (properties_of l.left) ≤ properties_size (properties_of l.all)) × (written l.self (properties_tokens (properties_of l.left)) ≡ written l.fn.self (properties_tokens (properties_of l.all)))
 
 abbrev pub decreases-put_properties-loop-left : goal.decreases-put_properties-loop-left
 decreases-put_properties-loop-left l = length l.left
@@ -81,7 +81,7 @@ abbrev pub decreases-put_suffixes : goal.decreases-put_suffixes
 decreases-put_suffixes l = 3 * suffixes_size (suffixes_of l.all.now)
 
 abbrev pub invariant-put_suffixes-loop-left : goal.invariant-put_suffixes-loop-left
-invariant-put_suffixes-loop-left l = (suffixes_size (suffixes_of l.left) ≤ suffixes_size (suffixes_of l.all)) × (written l.out.items (suffixes_tokens (suffixes_of l.left)) ≡ written l.fn.out.items (suffixes_tokens (suffixes_of l.all)))
+invariant-put_suffixes-loop-left l = (suffixes_size (suffixes_of l.left) ≤ suffixes_size (suffixes_of l.all)) × (written l.self (suffixes_tokens (suffixes_of l.left)) ≡ written l.fn.self (suffixes_tokens (suffixes_of l.all)))
 
 abbrev pub decreases-put_suffixes-loop-left : goal.decreases-put_suffixes-loop-left
 decreases-put_suffixes-loop-left l = length l.left
@@ -90,7 +90,7 @@ abbrev pub decreases-put_operands : goal.decreases-put_operands
 decreases-put_operands l = 3 * operands_size (operands_of l.all.now)
 
 abbrev pub invariant-put_operands-loop-left : goal.invariant-put_operands-loop-left
-invariant-put_operands-loop-left l = (operands_size (operands_of l.left) ≤ operands_size (operands_of l.all)) × (written l.out.items (operands_tokens (operands_of l.left)) ≡ written l.fn.out.items (operands_tokens (operands_of l.all)))
+invariant-put_operands-loop-left l = (operands_size (operands_of l.left) ≤ operands_size (operands_of l.all)) × (written l.self (operands_tokens (operands_of l.left)) ≡ written l.fn.self (operands_tokens (operands_of l.all)))
 
 abbrev pub decreases-put_operands-loop-left : goal.decreases-put_operands-loop-left
 decreases-put_operands-loop-left l = length l.left
@@ -99,7 +99,7 @@ abbrev pub decreases-put_statements : goal.decreases-put_statements
 decreases-put_statements l = 3 * statements_size (statements_of l.all.now)
 
 abbrev pub invariant-put_statements-loop-left : goal.invariant-put_statements-loop-left
-invariant-put_statements-loop-left l = (statements_size (statements_of l.left) ≤ statements_size (statements_of l.all)) × (written l.out.items (statements_tokens (statements_of l.left)) ≡ written l.fn.out.items (statements_tokens (statements_of l.all)))
+invariant-put_statements-loop-left l = (statements_size (statements_of l.left) ≤ statements_size (statements_of l.all)) × (written l.self (statements_tokens (statements_of l.left)) ≡ written l.fn.self (statements_tokens (statements_of l.all)))
 
 abbrev pub decreases-put_statements-loop-left : goal.decreases-put_statements-loop-left
 decreases-put_statements-loop-left l = length l.left
@@ -108,7 +108,7 @@ abbrev pub decreases-put_declarations : goal.decreases-put_declarations
 decreases-put_declarations l = 3 * declarations_size (declarations_of l.all.now)
 
 abbrev pub invariant-put_declarations-loop-left : goal.invariant-put_declarations-loop-left
-invariant-put_declarations-loop-left l = (declarations_size (declarations_of l.left) ≤ declarations_size (declarations_of l.all)) × (written l.out.items (declarations_tokens (declarations_of l.left)) ≡ written l.fn.out.items (declarations_tokens (declarations_of l.all)))
+invariant-put_declarations-loop-left l = (declarations_size (declarations_of l.left) ≤ declarations_size (declarations_of l.all)) × (written l.self (declarations_tokens (declarations_of l.left)) ≡ written l.fn.self (declarations_tokens (declarations_of l.all)))
 
 abbrev pub decreases-put_declarations-loop-left : goal.decreases-put_declarations-loop-left
 decreases-put_declarations-loop-left l = length l.left
@@ -117,7 +117,7 @@ abbrev pub decreases-put_branches : goal.decreases-put_branches
 decreases-put_branches l = 3 * branches_size (branches_of l.all.now)
 
 abbrev pub invariant-put_branches-loop-left : goal.invariant-put_branches-loop-left
-invariant-put_branches-loop-left l = (branches_size (branches_of l.left) ≤ branches_size (branches_of l.all)) × (written l.out.items (branches_tokens (branches_of l.left)) ≡ written l.fn.out.items (branches_tokens (branches_of l.all)))
+invariant-put_branches-loop-left l = (branches_size (branches_of l.left) ≤ branches_size (branches_of l.all)) × (written l.self (branches_tokens (branches_of l.left)) ≡ written l.fn.self (branches_tokens (branches_of l.all)))
 
 abbrev pub decreases-put_branches-loop-left : goal.decreases-put_branches-loop-left
 decreases-put_branches-loop-left l = length l.left
@@ -126,7 +126,7 @@ abbrev pub decreases-put_clauses : goal.decreases-put_clauses
 decreases-put_clauses l = 3 * clauses_size (clauses_of l.all.now)
 
 abbrev pub invariant-put_clauses-loop-left : goal.invariant-put_clauses-loop-left
-invariant-put_clauses-loop-left l = (clauses_size (clauses_of l.left) ≤ clauses_size (clauses_of l.all)) × (written l.out.items (clauses_tokens (clauses_of l.left)) ≡ written l.fn.out.items (clauses_tokens (clauses_of l.all)))
+invariant-put_clauses-loop-left l = (clauses_size (clauses_of l.left) ≤ clauses_size (clauses_of l.all)) × (written l.self (clauses_tokens (clauses_of l.left)) ≡ written l.fn.self (clauses_tokens (clauses_of l.all)))
 
 abbrev pub decreases-put_clauses-loop-left : goal.decreases-put_clauses-loop-left
 decreases-put_clauses-loop-left l = length l.left

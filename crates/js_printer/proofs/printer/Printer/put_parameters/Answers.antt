@@ -2,7 +2,7 @@
 use Rattle.std.proofs.Common.{length, refl}
 use Rattle.js_grammar.specs.Printing.{expression_tokens, parameters_tokens}
 use Rattle.js_printer.proofs.Rows.{first_and_rest, all_written, names_turn}
-use Rattle.js_printer.proofs.tree.put_parameters.Goals as goal
+use Rattle.js_printer.proofs.printer.Printer.put_parameters.Goals as goal
 
 pub loop-left-preserved : goal.loop-left-preserved
 loop-left-preserved c =
