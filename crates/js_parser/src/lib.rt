@@ -12,6 +12,3 @@ mod script;
 mod statements;
 
 pub use script::{read_script, read_tokens};
-
-#[cfg(test)]
-mod tests;

@@ -1,7 +1,7 @@
 //! What scripts read as, and where they are refused: tables of short scripts.
 //!
 //! The cases are those of ECMA-262 edition 5.1, sections 7.9 and 11 to 14, as the profile in docs/LANGUAGE.md has them.
-//! It has tests alone, and stands on js_parser and js_printer.
+//! It has tests alone, and stands on js_lexer, js_parser and js_printer.
 #![tactic(auto)]
 
 #[cfg(test)]

@@ -1,8 +1,9 @@
 // What scripts read as, by what they are printed as, and each refusal at its place. The cases are those of ECMA-262
 // 5.1, sections 7.9 and 11 to 14, as the profile in docs/LANGUAGE.md has them.
-use js_parser::read_script;
+use js_lexer::lex;
+use js_parser::{read_script, read_tokens};
 use js_printer::print;
-use js_tree::{ReadAnswer, Script};
+use js_tree::{Place, ReadAnswer, ReadKind, Script};
 use std::alloc::Global;
 use std::process::Abort;
 use std::test::Fail;
@@ -393,5 +394,25 @@ fn nesting_ends_at_two_hundred(rt: HostRuntime) -> Result<(), Fail> {
         let line = outcome(&rt, alloc, source.as_str())?;
         assert_eq!(rt; line.as_str(), wanted, "of {count} {front}");
     }
+    Ok(())
+}
+
+#[test]
+fn brackets_take_room(rt: HostRuntime) -> Result<(), Fail> {
+    let alloc = rt.alloc();
+    let Ok(tokens) = lex(alloc, &Text::from_str(alloc, "(a)")?) else {
+        return Err("no tokens".into());
+    };
+    let end = Place { line: 1, column: 4 };
+    // The statement, its expression, and the expression in brackets.
+    let Ok(body) = read_tokens(alloc, tokens.as_slice(), end, 3) else {
+        return Err("no statements".into());
+    };
+    assert_eq!(rt; body.len(), 1);
+    let Err(ReadAnswer::Refused(kind, place)) = read_tokens(alloc, tokens.as_slice(), end, 2) else {
+        return Err("not refused".into());
+    };
+    assert_eq!(rt; kind, ReadKind::TooDeep);
+    assert_eq!(rt; place, Place { line: 1, column: 2 });
     Ok(())
 }
