@@ -400,7 +400,9 @@ fn nesting_ends_at_two_hundred(rt: HostRuntime) -> Result<(), Fail> {
 #[test]
 fn brackets_take_room(rt: HostRuntime) -> Result<(), Fail> {
     let alloc = rt.alloc();
-    let Ok(tokens) = lex(alloc, &Text::from_str(alloc, "(a)")?) else {
+    let text = Text::from_str(alloc, "(a)")?;
+    assert!(rt; text.len() == 3);
+    let Ok(tokens) = lex(alloc, &text) else {
         return Err("no tokens".into());
     };
     let end = Place { line: 1, column: 4 };
