@@ -9,7 +9,7 @@ is_current() {
 }
 
 if ! is_current; then
-  echo "pac: proving and building the program; from nothing this takes more than half an hour" >&2
+  echo "pac: proving and building the program; from nothing this takes about half an hour" >&2
   log=$(mktemp) || exit 2
   # `rt run` proves every crate below, builds the program, and runs it on this example.
   if ! (cd "$top/crates/pac_main" && rt run -- resolve "$top/examples/direct.pac" http://example.com/) >"$log" 2>&1; then
