@@ -22,8 +22,8 @@ use Rattle.js_tree.specs.declared.expression.Operand.{Operand}
 use Rattle.js_tree.specs.declared.expression.Function.{Function as FunctionRecord}
 use Rattle.js_tree.specs.Tree.{ExpressionTree, Number, Characters, True, False, Null, This, Name, Array, Object, Function, Suffixed, New, Update, Unary, Chain, Conditional, Assign, Comma, StatementTree, expressions_of, items_of}
 use Rattle.js_tree.specs.View.{properties_of, suffixes_of, operands_of, function_of}
-use Rattle.js_grammar.specs.declared.keyword.Keyword.{Keyword}
-use Rattle.js_grammar.specs.declared.keyword.Keyword.TheVariants as word
+use Rattle.js_tree.specs.declared.keyword.Keyword.{Keyword}
+use Rattle.js_tree.specs.declared.keyword.Keyword.TheVariants as word
 use Rattle.js_grammar.specs.declared.turn.Turn.{Turn}
 use Rattle.js_grammar.specs.declared.turn.Turn.TheVariants.{More, End}
 use Rattle.js_grammar.specs.declared.form.Form.{Form}

@@ -6,7 +6,8 @@ use Rattle.utf16_text.specs.Letters.{is_break_unit}
 use Rattle.js_tree.specs.declared.refusal.ReadKind.{ReadKind}
 use Rattle.js_tree.specs.declared.refusal.ReadKind.TheVariants.{BadToken, FractionLiteral, Unsupported}
 use Rattle.js_grammar.specs.Reading.{◌>>=◌}
-use Rattle.js_grammar.specs.Units.{first_passes, begins_with, is_digit, is_hexadecimal, value_of, is_word_start}
+use Rattle.utf16_text.specs.Digits.{is_digit, is_hexadecimal, value_of}
+use Rattle.js_grammar.specs.Units.{first_passes, begins_with, is_word_start}
 
 -- ---- numbers, each with how many units it has
 

@@ -10,7 +10,7 @@ use Rattle.js_tree.specs.declared.bound.BoundName.{BoundName}
 use Rattle.js_tree.specs.declared.bound.Bound.TheVariants.{Unbound}
 use Rattle.js_tree.specs.declared.refusal.ReadKind.{ReadKind}
 use Rattle.js_tree.specs.declared.refusal.ReadKind.TheVariants.{Unexpected}
-use Rattle.js_grammar.specs.declared.keyword.Keyword.{Keyword}
+use Rattle.js_tree.specs.declared.keyword.Keyword.{Keyword}
 use Rattle.js_grammar.specs.declared.turn.Turn.{Turn}
 use Rattle.js_grammar.specs.declared.turn.Turn.TheVariants.{More, Last, End}
 use Rattle.js_grammar.specs.Reading.{Refusal, ◌>>=◌}

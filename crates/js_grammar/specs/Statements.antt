@@ -14,8 +14,9 @@ use Rattle.js_tree.specs.declared.statement.Clause.{Clause}
 use Rattle.js_tree.specs.declared.statement.Catch.{Catch}
 use Rattle.js_tree.specs.Tree.{ExpressionTree, StatementTree, Block, Empty, Evaluate, Debugger, Var, If, DoWhile, While, For, ForIn, Continue, Break, Return, Throw, Switch, Try, Declare, absent, present, OptionalStatement, omitted, given, StartTree, no_start, start_var, start_value, TargetTree, target_value, target_declared, CatchTree, no_catch, a_catch, optional_of, statements_of}
 use Rattle.js_tree.specs.View.{function_of, declarations_of, branches_of, clauses_of}
-use Rattle.js_grammar.specs.declared.keyword.Keyword.{Keyword}
-use Rattle.js_grammar.specs.declared.keyword.Keyword.TheVariants as word
+use Rattle.js_tree.specs.Parts.{statement_or_none, catch_or_none}
+use Rattle.js_tree.specs.declared.keyword.Keyword.{Keyword}
+use Rattle.js_tree.specs.declared.keyword.Keyword.TheVariants as word
 use Rattle.js_grammar.specs.declared.turn.Turn.{Turn}
 use Rattle.js_grammar.specs.declared.turn.Turn.TheVariants.{More, Last, End}
 use Rattle.js_grammar.specs.declared.form.Form.{Form}
@@ -49,18 +50,10 @@ in_switch a = record { direct = false; in_function = a.in_function; in_loop = a.
 
 -- ---- parts that may be missing
 
-abbrev pub statement_or_none : Option StatementTree → OptionalStatement
-statement_or_none None = omitted
-statement_or_none (Some s) = given s
-
 -- one of the two parts of a `try` must be there
 abbrev pub has_part : Option Catch → Option StatementTree → Bool
 has_part None None = false
 has_part _ _ = true
-
-abbrev pub catch_or_none : Option Catch → CatchTree
-catch_or_none None = no_catch
-catch_or_none (Some c) = a_catch c.name c.body
 
 -- the one declared name before `in`
 abbrev pub before_in : Option Keyword → List Declared → Option Declared

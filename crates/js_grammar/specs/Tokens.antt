@@ -11,10 +11,11 @@ use Rattle.js_tree.specs.declared.sign.Sign.{Sign as SignName}
 use Rattle.js_tree.specs.declared.sign.Sign.TheVariants as sign
 use Rattle.js_tree.specs.declared.refusal.ReadKind.{ReadKind}
 use Rattle.js_tree.specs.declared.refusal.ReadKind.TheVariants.{BadToken, FractionLiteral, Unsupported}
-use Rattle.js_grammar.specs.declared.keyword.Keyword.{Keyword}
-use Rattle.js_grammar.specs.declared.keyword.Keyword.TheVariants as word
+use Rattle.js_tree.specs.declared.keyword.Keyword.{Keyword}
+use Rattle.js_tree.specs.declared.keyword.Keyword.TheVariants as word
 use Rattle.js_grammar.specs.Reading.{Refusal, ◌>>=◌}
-use Rattle.js_grammar.specs.Units.{first_passes, begins_with, is_digit, is_word_start, is_word_part, has_break, place_after}
+use Rattle.utf16_text.specs.Digits.{is_digit}
+use Rattle.js_grammar.specs.Units.{first_passes, begins_with, is_word_start, is_word_part, has_break, place_after}
 use Rattle.js_grammar.specs.Words.{keyword_of}
 use Rattle.js_grammar.specs.Signs.{sign_at}
 use Rattle.js_grammar.specs.Literals.{number_at, text_at}

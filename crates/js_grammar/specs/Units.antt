@@ -1,7 +1,8 @@
--- Classes of units (ECMA-262 5.1, sections 7.6 and 7.8.3), and places among units.
+-- Classes of units (ECMA-262 5.1, section 7.6), and places among units.
 use Rattle.std.specs.Prelude.{ℕ, ◌+◌, ◌-◌, ◌*◌, List, [], ◌∷◌, fold, Bool, false, ◌&&◌, ◌||◌, nat_eq, if◌then◌else◌}
 use Rattle.std.specs.List.{list_any}
 use Rattle.utf16_text.specs.Letters.{is_between, is_break_unit}
+use Rattle.utf16_text.specs.Digits.{is_digit}
 use Rattle.js_tree.specs.declared.place.Place.{Place}
 
 -- whether there is a first unit, and it passes the test
@@ -12,22 +13,6 @@ first_passes test (u ∷ us) = test u
 -- whether this unit comes first
 abbrev pub begins_with : ℕ → List ℕ → Bool
 begins_with u us = first_passes (λ v. nat_eq v u) us
-
--- `0` to `9`
-abbrev pub is_digit : ℕ → Bool
-is_digit u = is_between 48 57 u
-
--- `0` to `9`, `a` to `f` and `A` to `F`
-abbrev pub is_hexadecimal : ℕ → Bool
-is_hexadecimal u = is_digit u || is_between 97 102 u || is_between 65 70 u
-
--- what a digit stands for
-abbrev pub digit_of : ℕ → ℕ
-digit_of u = if is_digit u then u - 48 else if is_between 97 102 u then u - 87 else u - 55
-
--- what digits stand for
-abbrev pub value_of : ℕ → List ℕ → ℕ
-value_of base digits = fold (λ n u. n * base + digit_of u) 0 digits
 
 -- begins a word: an ASCII letter, `$` (36) or `_` (95)
 abbrev pub is_word_start : ℕ → Bool

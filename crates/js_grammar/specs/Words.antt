@@ -1,8 +1,8 @@
 -- Words and the reserved ones among them (ECMA-262 5.1, sections 7.6 and 7.6.1).
 use Rattle.std.specs.Prelude.{ℕ, List, [], ◌∷◌, Option, Bool, codes, nat_eq, find}
 use Rattle.std.specs.Cmp.Lexicographic.{pointwise}
-use Rattle.js_grammar.specs.declared.keyword.Keyword.{Keyword}
-use Rattle.js_grammar.specs.declared.keyword.Keyword.TheVariants as word
+use Rattle.js_tree.specs.declared.keyword.Keyword.{Keyword}
+use Rattle.js_tree.specs.declared.keyword.Keyword.TheVariants as word
 
 -- whether two texts are unit for unit the same
 abbrev pub same : List ℕ → List ℕ → Bool

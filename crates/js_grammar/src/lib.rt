@@ -7,10 +7,8 @@
 
 mod around;
 mod form;
-mod keyword;
 mod turn;
 
 pub use around::Around;
 pub use form::{Form, LeftSide};
-pub use keyword::Keyword;
 pub use turn::Turn;

@@ -4,9 +4,8 @@ use Rattle.std.proofs.Math.Nat.{mul-le-mul_right, mul_assoc}
 use Rattle.std.proofs.lemmas.Bool.Decides.{nat_tests}
 use Rattle.std.proofs.lemmas.List.Sums.{prefix_len-le-length}
 use Rattle.std.specs.List.{prefix_len}
-use Rattle.js_grammar.specs.Units.{is_hexadecimal, digit_of, value_of}
+use Rattle.utf16_text.specs.Digits.{is_hexadecimal, digit_of, value_of}
 use Rattle.js_grammar.specs.Literals.{numbered_at}
-use Rattle.js_lexer.specs.declared.numbers.TheConstants.{LIMIT}
 
 abbrev step : ℕ → ℕ → ℕ
 step n u = n * 16 + digit_of u
@@ -50,7 +49,7 @@ value_below k us small all short =
     omega (arith, fold_below 0 us whole, power_small (length us) (omega arith))
 
 -- what `\x` and `\u` give, by the value that was counted up to the limit
-pub numbered-value : (k v : ℕ) (us : List ℕ) → k ≤ 4 → prefix_len is_hexadecimal (take k us) ≡ k → v ≡ min (value_of 16 (take k us)) LIMIT → Ok (Some v, k + 1) ≡ numbered_at k us
+pub numbered-value : (k v : ℕ) (us : List ℕ) → k ≤ 4 → prefix_len is_hexadecimal (take k us) ≡ k → v ≡ min (value_of 16 (take k us)) 9007199254740992 → Ok (Some v, k + 1) ≡ numbered_at k us
 numbered-value k v us small all is =
     let short : length (take k us) ≤ k = omega (arith, length-take k us) in
     let same : v ≡ value_of 16 (take k us) = omega (arith, value_below k (take k us) small all short) in

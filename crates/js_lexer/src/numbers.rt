@@ -1,28 +1,14 @@
 // Number literals.
-ghost use Rattle.std.specs.Prelude.{◌≡◌, ◌≤◌, ◌<◌, ◌+◌, true, IfOk, min, length};
-ghost use Rattle.js_grammar.specs.Units.{first_passes, is_digit, value_of};
+ghost use Rattle.std.specs.Prelude.{◌≡◌, ◌≤◌, ◌<◌, ◌+◌, true, IfOk, length};
+ghost use Rattle.utf16_text.specs.Digits.{is_digit, value_of};
+ghost use Rattle.js_grammar.specs.Units.{first_passes};
 ghost use Rattle.js_grammar.specs.Literals as spec;
 
-use crate::units::{begins_with, begins_word, behind, digit_of, digits_length, hexadecimal_length};
+use crate::units::{begins_with, begins_word, behind, digits_length, hexadecimal_length};
 use js_tree::ReadKind;
 use whole_number::Whole;
 
-/// One more than the largest number.
-const LIMIT: u64 = 9007199254740992;
-
 const ZERO: u16 = 0x30;
-
-/// What these digits stand for, or the limit where that is more.
-pub fn value_of(base: u64, digits: &[u16]) -> u64
-    requires { base ≤ 16 }
-    ensures { result ≡ min (value_of base digits.now) LIMIT }
-{
-    let mut value = 0;
-    for digit in digits {
-        value = (value * base + u64::from(digit_of(*digit))).min(LIMIT);
-    }
-    value
-}
 
 fn begins_fraction(units: &[u16]) -> bool
     ensures { result ≡ first_passes spec.is_fraction_mark units.now }
@@ -37,14 +23,14 @@ fn literal(
     written: usize,
     rest: &[u16],
 ) -> Result<(Whole, usize), ReadKind>
-    requires { base ≤ 16 }
+    requires { base ≤ 36 }
     ensures value { result ≡ spec.literal (value_of base digits.now) written rest.now }
     ensures within { IfOk result (λ x. x.1 ≡ written) }
 {
     if begins_word(rest) {
         return Err(ReadKind::BadToken);
     }
-    match Whole::new(value_of(base, digits) as i64) {
+    match Whole::from_digits(base, digits) {
         None => Err(ReadKind::BadToken),
         Some(number) => Ok((number, written)),
     }

@@ -1,7 +1,8 @@
 // What stands at the front of a text: a token, or white space or a comment.
 ghost use Rattle.std.specs.Prelude.{◌≡◌, ◌≤◌, ◌<◌, ◌+◌, true, Ok, IfOk, IfSome, length, reverse};
 ghost use Rattle.js_grammar.specs.Reading.{Gives};
-ghost use Rattle.js_grammar.specs.Units.{first_passes, is_digit, is_word_part};
+ghost use Rattle.utf16_text.specs.Digits.{is_digit};
+ghost use Rattle.js_grammar.specs.Units.{first_passes, is_word_part};
 ghost use Rattle.js_grammar.specs.Signs as signs;
 ghost use Rattle.js_grammar.specs.Tokens as spec;
 

@@ -3,8 +3,7 @@ ghost use Rattle.std.specs.Prelude.{◌≡◌, reverse};
 ghost use Rattle.js_grammar.specs.Tokens as spec;
 
 use crate::words::keyword_of;
-use js_grammar::Keyword;
-use js_tree::{Sign, Token, TokenKind};
+use js_tree::{Keyword, Sign, Token, TokenKind};
 
 fn is_value_word(keyword: Option<Keyword>) -> bool
     ensures { result ≡ spec.is_value_word keyword }

@@ -5,11 +5,11 @@ ghost use Rattle.js_grammar.specs.Literals as spec;
 ghost use Rattle.js_grammar.specs.Tokens.{at_place};
 ghost use Rattle.js_tree.specs.declared.refusal.ReadAnswer.TheVariants as answers;
 
-use crate::numbers::value_of;
-use crate::units::{begins_digit, begins_with, behind, front, hexadecimal_length, is_digit};
+use crate::units::{begins_digit, begins_with, behind, front, hexadecimal_length};
 use js_tree::{Place, ReadAnswer, ReadKind};
 use std::alloc::Global;
 use utf16_text::{Text, is_line_terminator};
+use whole_number::capped_value;
 
 const LINE_FEED: u16 = 0x0A;
 
@@ -33,7 +33,7 @@ fn numbered_at(count: usize, units: &[u16]) -> Result<(Option<u16>, usize), Read
     if hexadecimal_length(digits) != count {
         return Err(ReadKind::BadToken);
     }
-    Ok((Some(value_of(16, digits) as u16), count + 1))
+    Ok((Some(capped_value(16, digits) as u16), count + 1))
 }
 
 fn break_length(units: &[u16]) -> usize

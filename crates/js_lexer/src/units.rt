@@ -2,54 +2,16 @@
 ghost use Rattle.std.specs.Prelude.{◌≡◌, ◌≤◌, ◌<◌, ◌+◌, ◌^◌, true, length, take, drop};
 ghost use Rattle.std.specs.List.{prefix_len};
 ghost use Rattle.utf16_text.specs.Letters.{is_space_unit};
-ghost use Rattle.js_grammar.specs.Units.{
-  first_passes,
-  begins_with,
-  is_digit,
-  is_hexadecimal,
-  digit_of,
-  is_word_start,
-  is_word_part,
-  has_break,
-  place_after,
-};
+ghost use Rattle.utf16_text.specs.Digits.{is_digit, is_hexadecimal};
+ghost use Rattle.js_grammar.specs.Units.{first_passes, begins_with, is_word_start, is_word_part, has_break, place_after};
 ghost use Rattle.js_grammar.specs.Tokens.{is_inline};
 
 use js_tree::Place;
-use utf16_text::{is_line_terminator, is_white_space};
+use utf16_text::{is_digit, is_hexadecimal, is_line_terminator, is_space};
 
 const LINE_FEED: u16 = 0x0A;
 
 const CARRIAGE_RETURN: u16 = 0x0D;
-
-pub fn is_space(unit: u16) -> bool
-    ensures { result ≡ is_space_unit unit }
-{
-    is_white_space(unit) || is_line_terminator(unit)
-}
-
-pub fn is_digit(unit: u16) -> bool
-    ensures { result ≡ is_digit unit }
-{
-    matches!(unit, 48..=57)
-}
-
-pub fn is_hexadecimal(unit: u16) -> bool
-    ensures { result ≡ is_hexadecimal unit }
-{
-    matches!(unit, 48..=57 | 97..=102 | 65..=70)
-}
-
-/// What a digit stands for.
-pub fn digit_of(unit: u16) -> u16
-    ensures { result ≡ digit_of unit }
-{
-    match unit {
-        48..=57 => unit - 48,
-        97..=102 => unit - 87,
-        _ => unit.saturating_sub(55),
-    }
-}
 
 pub fn is_word_start(unit: u16) -> bool
     ensures { result ≡ is_word_start unit }

@@ -2,7 +2,7 @@
 ghost use Rattle.std.specs.Prelude.{◌≡◌, codes};
 ghost use Rattle.js_grammar.specs.Words as spec;
 
-use js_grammar::Keyword;
+use js_tree::Keyword;
 
 /// The reserved words in the order of the alphabet.
 const KEYWORDS: [Keyword; 36] = [

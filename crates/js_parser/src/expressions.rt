@@ -10,7 +10,7 @@ ghost use Rattle.js_parser.specs.Nested.{ReadsNested};
 
 use crate::nested::{ExpressionPart, StatementPart};
 use crate::parser::Parser;
-use js_grammar::{Form, Keyword, LeftSide, Turn};
+use js_grammar::{Form, LeftSide, Turn};
 use js_lexer::keyword_of;
 use js_productions::{
     Read, assign_node, chained, conditional_node, expect, function_node, in_function, is_accessor,
@@ -19,9 +19,9 @@ use js_productions::{
     refused_word, rest_of, row, suffixed_by, unary_node, unbound, update_node,
 };
 use js_tree::{
-    BoundName, Expression, ExpressionList, ExpressionNode, Function, ItemList, NameList, Operand,
-    OperandList, Place, Property, PropertyList, ReadAnswer, ReadKind, Sign, Statement, Suffix,
-    SuffixList, SuffixNode, Token, TokenKind, UpdateForm,
+    BoundName, Expression, ExpressionList, ExpressionNode, Function, ItemList, Keyword, NameList,
+    Operand, OperandList, Place, Property, PropertyList, ReadAnswer, ReadKind, Sign, Statement,
+    Suffix, SuffixList, SuffixNode, Token, TokenKind, UpdateForm,
 };
 use utf16_text::Text;
 

@@ -7,11 +7,11 @@ ghost use Rattle.js_grammar.specs.Expressions.{a_statement};
 ghost use Rattle.js_grammar.specs.Statements as spec;
 ghost use Rattle.js_grammar.specs.Statements.{deeper};
 ghost use Rattle.js_parser.specs.Nested.{ReadsNested};
-ghost use Rattle.js_productions.specs.Starts.{start_or_none};
+ghost use Rattle.js_tree.specs.Parts.{start_or_none};
 
 use crate::nested::{ExpressionPart, StatementPart};
 use crate::parser::Parser;
-use js_grammar::{Around, Form, Keyword, Turn};
+use js_grammar::{Around, Form, Turn};
 use js_lexer::keyword_of;
 use js_productions::{
     Read, alone, before_in, begins_line, broken, closes, continued, declare_node, do_node, ends,
@@ -22,8 +22,8 @@ use js_productions::{
 };
 use js_tree::{
     Branch, BranchList, Catch, Clause, ClauseList, Declared, DeclaredList, Expression, ForStart,
-    ForTarget, Place, ReadAnswer, ReadKind, Sign, Statement, StatementList, StatementNode, Token,
-    TokenKind,
+    ForTarget, Keyword, Place, ReadAnswer, ReadKind, Sign, Statement, StatementList, StatementNode,
+    Token, TokenKind,
 };
 
 impl<

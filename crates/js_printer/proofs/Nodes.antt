@@ -12,8 +12,8 @@ use Rattle.js_tree.specs.declared.operators.UpdateForm.TheVariants.{Prefix, Post
 use Rattle.js_tree.specs.declared.operators.UpdateOp.{UpdateOp}
 use Rattle.js_tree.specs.declared.operators.AssignOp.{AssignOp}
 use Rattle.js_tree.specs.Tree.{ExpressionTree, Number, Characters, True, False, Null, This, Name, Array, Object, Function, Numbered, Suffixed, New, Update, Unary, Chain, Conditional, Assign, Comma, OptionalExpression, absent, present, Expressions, Items, Properties, a_member, an_index, a_call, Suffixes, Operands, FunctionTree, a_function, StatementTree, Block, Empty, Evaluate, Debugger, Var, If, DoWhile, While, For, ForIn, Continue, Break, Return, Throw, Switch, Try, Declare, DeclareNumbered, OptionalStatement, omitted, given, Statements, Declarations, Branches, StartTree, no_start, start_var, start_value, TargetTree, target_value, target_declared, Clauses, CatchTree, no_catch, a_catch}
-use Rattle.js_grammar.specs.declared.keyword.Keyword.{Keyword}
-use Rattle.js_grammar.specs.declared.keyword.Keyword.TheVariants as word
+use Rattle.js_tree.specs.declared.keyword.Keyword.{Keyword}
+use Rattle.js_tree.specs.declared.keyword.Keyword.TheVariants as word
 use Rattle.js_grammar.specs.Printing.{printed, sign_token, word_token, keyword_token, unary_token, update_token, assign_token, comma_if, parameters_tokens, own_name_tokens, expression_tokens, optional_tokens, expressions_tokens, items_tokens, item_tokens, properties_tokens, suffix_tokens, suffixes_tokens, operands_tokens, function_tokens, statement_tokens, statements_tokens, otherwise_tokens, finally_tokens, first_value_tokens, declarations_tokens, branches_tokens, start_tokens, target_tokens, test_tokens, clauses_tokens, catch_tokens}
 use Rattle.js_printer.specs.Written.{written}
 use Rattle.js_printer.proofs.Tokens.{written_append}

@@ -18,7 +18,7 @@ use Rattle.js_tree.specs.declared.statement.Clause.{Clause}
 use Rattle.js_tree.specs.Size.{expressions_size, items_size, properties_size, suffixes_size, operands_size, statements_size, declarations_size, branches_size, clauses_size}
 use Rattle.js_tree.specs.Tree.{ExpressionTree, StatementTree, optional_of, expressions_of, items_of, statements_of}
 use Rattle.js_tree.specs.View.{properties_of, suffix_of, suffixes_of, operands_of, declarations_of, branches_of, clauses_of}
-use Rattle.js_grammar.specs.declared.keyword.Keyword.TheVariants as word
+use Rattle.js_tree.specs.declared.keyword.Keyword.TheVariants as word
 use Rattle.js_grammar.specs.Printing.{printed, sign_token, word_token, keyword_token, binary_token, comma_if, else_if, parameters_tokens, expression_tokens, expressions_tokens, items_tokens, item_tokens, properties_tokens, suffix_tokens, suffixes_tokens, operands_tokens, statement_tokens, statements_tokens, first_value_tokens, declarations_tokens, branches_tokens, test_tokens, clauses_tokens}
 use Rattle.js_printer.specs.Written.{written}
 use Rattle.js_printer.proofs.Tokens.{written_append}

@@ -2,8 +2,8 @@
 use Rattle.std.proofs.Common.{false, ◌≡◌, ℕ, List, [], ◌∷◌, ◌++◌, refl}
 use Rattle.js_tree.specs.declared.token.Token.{Token}
 use Rattle.utf16_text.specs.Escape.{escaped}
-use Rattle.js_grammar.specs.declared.keyword.Keyword.{Keyword}
-use Rattle.js_grammar.specs.declared.keyword.Keyword.TheVariants as word
+use Rattle.js_tree.specs.declared.keyword.Keyword.{Keyword}
+use Rattle.js_tree.specs.declared.keyword.Keyword.TheVariants as word
 use Rattle.js_grammar.specs.Words.{keyword_spelling}
 use Rattle.js_grammar.specs.Spelling.{spelling}
 use Rattle.js_printer.specs.Written.{written}

@@ -23,10 +23,9 @@ ghost use Rattle.js_grammar.specs.Printing.{
 ghost use Rattle.js_printer.specs.Written.{written};
 
 use crate::printer::Printer;
-use js_grammar::Keyword;
 use js_tree::{
-    AssignOp, BoundName, Expression, ExpressionNode, Function, FunctionPart, Operand, Property,
-    Sign, Suffix, SuffixNode, UnaryOp, UpdateForm, UpdateOp,
+    AssignOp, BoundName, Expression, ExpressionNode, Function, FunctionPart, Keyword, Operand,
+    Property, Sign, Suffix, SuffixNode, UnaryOp, UpdateForm, UpdateOp,
 };
 use utf16_text::Memory;
 use whole_number::Whole;

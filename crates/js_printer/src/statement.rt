@@ -37,10 +37,9 @@ ghost use Rattle.js_grammar.specs.Printing.{
 ghost use Rattle.js_printer.specs.Written.{written};
 
 use crate::printer::Printer;
-use js_grammar::Keyword;
 use js_tree::{
     BoundName, Branch, Catch, Clause, Declared, Expression, ForStart, ForTarget, Function,
-    FunctionPart, Sign, Statement, StatementNode,
+    FunctionPart, Keyword, Sign, Statement, StatementNode,
 };
 use utf16_text::Memory;
 use whole_number::Whole;

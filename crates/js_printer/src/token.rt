@@ -20,8 +20,7 @@ ghost use Rattle.js_grammar.specs.Printing.{
 ghost use Rattle.js_printer.specs.Written.{written};
 
 use crate::printer::Printer;
-use js_grammar::Keyword;
-use js_tree::{AssignOp, BinaryOp, Sign, UnaryOp, UpdateOp};
+use js_tree::{AssignOp, BinaryOp, Keyword, Sign, UnaryOp, UpdateOp};
 use utf16_text::{Memory, Text};
 use whole_number::Whole;
 

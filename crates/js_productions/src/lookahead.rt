@@ -12,9 +12,8 @@ ghost use Rattle.js_grammar.specs.Expressions.{
 };
 ghost use Rattle.js_grammar.specs.Statements.{ends, semicolon_if, begins_line};
 
-use js_grammar::Keyword;
 use js_lexer::{is_spelled, keyword_of};
-use js_tree::{ReadKind, Sign, Token, TokenKind};
+use js_tree::{Keyword, ReadKind, Sign, Token, TokenKind};
 
 /// The tokens behind the first.
 pub fn rest_of(tokens: &[Token]) -> &[Token]

@@ -24,14 +24,15 @@ ghost use Rattle.js_tree.specs.Tree.{
 ghost use Rattle.js_tree.specs.View.{function_of, branches_of, clauses_of, target_of};
 ghost use Rattle.js_grammar.specs.Readers.{unbound};
 ghost use Rattle.js_grammar.specs.Expressions.{joined, chained, suffixed_by};
-ghost use Rattle.js_grammar.specs.Statements.{statement_or_none, catch_or_none, has_part, before_in};
-ghost use Rattle.js_productions.specs.Starts.{start_or_none};
+ghost use Rattle.js_grammar.specs.Statements.{has_part, before_in};
+ghost use Rattle.js_tree.specs.Parts.{statement_or_none, catch_or_none};
+ghost use Rattle.js_tree.specs.Parts.{start_or_none};
 
-use js_grammar::Keyword;
 use js_tree::{
     AssignOp, Bound, BoundName, BranchList, Catch, Clause, ClauseList, Declared, DeclaredList,
     Expression, ExpressionList, ExpressionNode, ForStart, ForTarget, Function, FunctionPart,
-    OperandList, Place, Statement, StatementNode, SuffixList, UnaryOp, UpdateForm, UpdateOp,
+    Keyword, OperandList, Place, Statement, StatementNode, SuffixList, UnaryOp, UpdateForm,
+    UpdateOp,
 };
 use std::alloc::Global;
 use utf16_text::{Memory, Text};

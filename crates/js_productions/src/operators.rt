@@ -3,11 +3,11 @@ ghost use Rattle.std.specs.Prelude.{◌≡◌, ◌<◌, ◌≤◌, length, IsSom
 ghost use Rattle.js_tree.specs.View.{suffixes_of};
 ghost use Rattle.js_grammar.specs.Operators as spec;
 
-use js_grammar::{Form, Keyword};
+use js_grammar::Form;
 use js_lexer::keyword_of;
 use js_tree::{
-    AssignOp, BinaryOp, Expression, ExpressionNode, Sign, Suffix, SuffixNode, Token, TokenKind,
-    UnaryOp, UpdateOp,
+    AssignOp, BinaryOp, Expression, ExpressionNode, Keyword, Sign, Suffix, SuffixNode, Token,
+    TokenKind, UnaryOp, UpdateOp,
 };
 
 fn unary_sign(sign: Sign) -> Option<UnaryOp>

@@ -12,11 +12,11 @@ ghost use Rattle.js_grammar.specs.Statements.{alone, alone_if, while_by};
 use crate::lookahead::{is_sign, next_keyword, next_sign, rest_of};
 use crate::nodes::unbound;
 use crate::turns::row;
-use js_grammar::{Around, Keyword, Turn};
+use js_grammar::{Around, Turn};
 use js_lexer::keyword_of;
 use js_tree::{
-    BoundName, ParameterList, Place, ReadAnswer, ReadKind, Sign, Statement, StatementNode, Token,
-    TokenKind,
+    BoundName, Keyword, ParameterList, Place, ReadAnswer, ReadKind, Sign, Statement, StatementNode,
+    Token, TokenKind,
 };
 use std::alloc::Global;
 use utf16_text::{Memory, Text};

@@ -1,27 +1,25 @@
 // Expressions and functions.
-use crate::{
-    AssignOp, BinaryOp, BoundName, Place, StatementList, TreeList, UnaryOp, UpdateForm, UpdateOp,
-};
+use crate::{AssignOp, BinaryOp, BoundName, Place, StatementList, UnaryOp, UpdateForm, UpdateOp};
 use std::marker::Model;
-use utf16_text::Text;
+use utf16_text::{List, Text};
 use whole_number::Whole;
 
 /// Names alone, in order.
-pub type NameList = TreeList<Text>;
+pub type NameList = List<Text>;
 /// The parameters of a function.
-pub type ParameterList = TreeList<BoundName>;
+pub type ParameterList = List<BoundName>;
 /// Expressions in a row: the arguments of a call, or what commas part.
-pub type ExpressionList = TreeList<Expression>;
+pub type ExpressionList = List<Expression>;
 /// The items of an array literal; None is a hole.
-pub type ItemList = TreeList<Option<Expression>>;
+pub type ItemList = List<Option<Expression>>;
 
-pub type PropertyList = TreeList<Property>;
+pub type PropertyList = List<Property>;
 
-pub type SuffixList = TreeList<Suffix>;
+pub type SuffixList = List<Suffix>;
 
-pub type OperandList = TreeList<Operand>;
+pub type OperandList = List<Operand>;
 /// The functions of a program, by their numbers.
-pub type FunctionList = TreeList<Function>;
+pub type FunctionList = List<Function>;
 
 /// An expression with its place (ECMA-262 5.1, section 11). Brackets leave no node.
 ///

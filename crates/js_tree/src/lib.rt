@@ -7,6 +7,10 @@
 mod bound;
 mod count;
 mod expression;
+mod keyword;
+mod make;
+mod make_expression;
+mod make_statement;
 mod operators;
 mod place;
 mod refusal;
@@ -14,7 +18,6 @@ mod script;
 mod sign;
 mod statement;
 mod token;
-mod tree_list;
 
 pub use bound::{Bound, BoundName};
 pub use expression::{
@@ -22,6 +25,7 @@ pub use expression::{
     NameList, Operand, OperandList, ParameterList, Property, PropertyList, Suffix, SuffixList,
     SuffixNode,
 };
+pub use keyword::Keyword;
 pub use operators::{AssignOp, BinaryOp, UnaryOp, UpdateForm, UpdateOp};
 pub use place::Place;
 pub use refusal::{ReadAnswer, ReadKind};
@@ -32,7 +36,3 @@ pub use statement::{
     Statement, StatementList, StatementNode,
 };
 pub use token::{Token, TokenKind};
-pub use tree_list::TreeList;
-
-#[cfg(test)]
-mod tests;

@@ -1,14 +1,15 @@
 // Statements.
-use crate::{BoundName, Expression, FunctionPart, Place, TreeList};
+use crate::{BoundName, Expression, FunctionPart, Place};
 use std::marker::Model;
+use utf16_text::List;
 
-pub type StatementList = TreeList<Statement>;
+pub type StatementList = List<Statement>;
 
-pub type DeclaredList = TreeList<Declared>;
+pub type DeclaredList = List<Declared>;
 
-pub type BranchList = TreeList<Branch>;
+pub type BranchList = List<Branch>;
 
-pub type ClauseList = TreeList<Clause>;
+pub type ClauseList = List<Clause>;
 
 /// A statement with the place of its first token (ECMA-262 5.1, sections 12 and 13).
 #[derive(Drop)]

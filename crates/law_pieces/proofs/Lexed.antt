@@ -9,7 +9,8 @@ use Rattle.js_tree.specs.declared.token.Token.{Token}
 use Rattle.js_tree.specs.declared.token.TokenKind.{TokenKind}
 use Rattle.js_tree.specs.declared.sign.Sign.{Sign}
 use Rattle.js_tree.specs.declared.refusal.ReadKind.{ReadKind}
-use Rattle.js_grammar.specs.Units.{first_passes, begins_with, is_digit, is_word_start, is_word_part, place_after}
+use Rattle.utf16_text.specs.Digits.{is_digit}
+use Rattle.js_grammar.specs.Units.{first_passes, begins_with, is_word_start, is_word_part, place_after}
 use Rattle.js_grammar.specs.Signs.{sign_at}
 use Rattle.js_grammar.specs.Literals.{number_at, text_at}
 use Rattle.js_grammar.specs.Tokens.{Piece, divides, comment_length, comment_piece, sign_piece, slash_piece, word_piece, number_piece, text_piece, is_quote, piece_at, at_place, piece_tokens, line_ended, tokens_from, tokens_of}

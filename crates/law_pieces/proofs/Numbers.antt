@@ -8,7 +8,8 @@ use Rattle.std.proofs.lemmas.List.Sums.{fold-append}
 use Rattle.std.proofs.Math.Seq.{take-append_seam, drop-append_seam}
 use Rattle.std.specs.List.{prefix_len, list_all}
 use Rattle.js_tree.specs.declared.token.TokenKind.TheVariants as token
-use Rattle.js_grammar.specs.Units.{first_passes, begins_with, is_digit, digit_of, value_of, is_word_start}
+use Rattle.utf16_text.specs.Digits.{is_digit, digit_of, value_of}
+use Rattle.js_grammar.specs.Units.{first_passes, begins_with, is_word_start}
 use Rattle.js_grammar.specs.Literals.{is_fraction_mark, decimal_at, is_hexadecimal_literal}
 use Rattle.js_grammar.specs.Tokens.{number_piece, piece_at}
 use Rattle.law_pieces.proofs.Units.{both, both_first, both_second, digit_shown, digit_no_start, shown_no_space, run_length}

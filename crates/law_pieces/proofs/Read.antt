@@ -5,7 +5,8 @@ use Rattle.std.proofs.lemmas.Bool.Decides.{nat_tests}
 use Rattle.std.specs.List.{prefix_len, list_all}
 use Rattle.utf16_text.specs.Letters.{is_break_unit}
 use Rattle.js_grammar.specs.Reading.{◌>>=◌}
-use Rattle.js_grammar.specs.Units.{first_passes, begins_with, is_digit, is_hexadecimal, digit_of, value_of, is_word_start}
+use Rattle.utf16_text.specs.Digits.{is_digit, is_hexadecimal, digit_of, value_of}
+use Rattle.js_grammar.specs.Units.{first_passes, begins_with, is_word_start}
 use Rattle.js_grammar.specs.Literals.{is_fraction_mark, literal, hexadecimal_at, decimal_at, is_hexadecimal_literal, number_at, numbered_at, escape_of, escape_at, character_at, text_from}
 use Rattle.law_pieces.specs.Spelt.{is_unit, is_literal}
 use Rattle.law_pieces.proofs.Units.{both, both_first, both_second, run_passes}

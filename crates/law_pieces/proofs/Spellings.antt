@@ -4,7 +4,8 @@ use Rattle.std.specs.List.{list_all}
 use Rattle.utf16_text.specs.Letters.{is_space_unit}
 use Rattle.js_tree.specs.declared.token.TokenKind.{TokenKind}
 use Rattle.js_tree.specs.declared.token.TokenKind.TheVariants as token
-use Rattle.js_grammar.specs.Units.{first_passes, has_break, is_digit, is_word_start, is_word_part}
+use Rattle.utf16_text.specs.Digits.{is_digit}
+use Rattle.js_grammar.specs.Units.{first_passes, has_break, is_word_start, is_word_part}
 use Rattle.js_grammar.specs.Signs.{sign_spelling}
 use Rattle.js_grammar.specs.Spelling.{spelling}
 use Rattle.js_grammar.specs.Tokens.{piece_at}

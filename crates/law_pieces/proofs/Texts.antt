@@ -8,7 +8,7 @@ use Rattle.std.specs.List.{list_all}
 use Rattle.utf16_text.specs.Escape.{hexadecimal_digit_of, numbered_unit, escaped_unit, escaped}
 use Rattle.js_tree.specs.declared.token.TokenKind.TheVariants as token
 use Rattle.js_grammar.specs.Reading.{◌>>=◌}
-use Rattle.js_grammar.specs.Units.{is_hexadecimal, digit_of}
+use Rattle.utf16_text.specs.Digits.{is_hexadecimal, digit_of}
 use Rattle.js_grammar.specs.Literals.{in_front, numbered_at, text_from, text_at}
 use Rattle.js_grammar.specs.Tokens.{piece_at}
 use Rattle.law_pieces.specs.Spelt.{is_unit}

@@ -3,7 +3,8 @@ use Rattle.std.proofs.Common.{◌≡◌, ℕ, suc, ◌+◌, List, [], ◌∷◌,
 use Rattle.std.proofs.lemmas.Bool.Decides.{nat_tests}
 use Rattle.std.specs.List.{prefix_len, list_all}
 use Rattle.utf16_text.specs.Letters.{is_between, is_break_unit, is_space_unit}
-use Rattle.js_grammar.specs.Units.{is_digit, is_word_start, is_word_part, has_break}
+use Rattle.utf16_text.specs.Digits.{is_digit}
+use Rattle.js_grammar.specs.Units.{is_word_start, is_word_part, has_break}
 
 -- ---- tests
 

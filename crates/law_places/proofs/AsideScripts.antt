@@ -9,8 +9,8 @@ use Rattle.js_tree.specs.declared.sign.Sign.{Sign}
 use Rattle.js_tree.specs.declared.sign.Sign.TheVariants as sign
 use Rattle.js_tree.specs.declared.refusal.ReadKind.TheVariants.{TooDeep}
 use Rattle.js_tree.specs.Tree.{StatementTree, Debugger, Continue, Break}
-use Rattle.js_grammar.specs.declared.keyword.Keyword.{Keyword}
-use Rattle.js_grammar.specs.declared.keyword.Keyword.TheVariants as word
+use Rattle.js_tree.specs.declared.keyword.Keyword.{Keyword}
+use Rattle.js_tree.specs.declared.keyword.Keyword.TheVariants as word
 use Rattle.js_grammar.specs.declared.form.LeftSide.TheVariants as side
 use Rattle.js_grammar.specs.declared.around.Around.{Around}
 use Rattle.js_grammar.specs.Reading.{Refusal}
@@ -19,7 +19,7 @@ use Rattle.js_grammar.specs.Readers.{row, next_sign}
 use Rattle.js_grammar.specs.Expressions.{Deeper, a_statement}
 use Rattle.js_grammar.specs.Statements.{at_top, whole, unlabelled, word_statement, statement_by, statement, deeper, script_within}
 use Rattle.js_grammar.specs.Printing.{nowhere}
-use Rattle.js_grammar.specs.Bare.{bare_expression, bare_statement}
+use Rattle.js_grammar.specs.Placeless.{placeless_expression, placeless_statement}
 use Rattle.law_places.specs.Placeless.{placeless}
 use Rattle.law_places.specs.Laws.{put_aside, PlacesArePutAside}
 use Rattle.law_places.proofs.Asides.{step, both, Aside, sign_aside, row_aside, refused_aside}
@@ -32,11 +32,11 @@ module _ (end : Place) where
   -- ---- statements
 
   module _ (d c : Deeper) (g : DeeperAside d c) where
-    unlabelled_aside : (s : Option Sign) (p : Place) → Aside bare_statement (unlabelled nowhere c s nowhere) (unlabelled end d s p)
+    unlabelled_aside : (s : Option Sign) (p : Place) → Aside placeless_statement (unlabelled nowhere c s nowhere) (unlabelled end d s p)
     unlabelled_aside (Some sign.Colon) p ts = refl
     unlabelled_aside _ p ts = evaluated_aside end d c g ts
 
-    word_aside : (around : Around) (k : Option Keyword) (p : Place) (t : Token) (ts : List Token) → word_statement nowhere c around k nowhere (placeless (t ∷ ts)) ≡ put_aside (both bare_statement) (word_statement end d around k p (t ∷ ts))
+    word_aside : (around : Around) (k : Option Keyword) (p : Place) (t : Token) (ts : List Token) → word_statement nowhere c around k nowhere (placeless (t ∷ ts)) ≡ put_aside (both placeless_statement) (word_statement end d around k p (t ∷ ts))
     word_aside around None p t ts = rw (sign_aside ts) (unlabelled_aside (next_sign ts) p (t ∷ ts))
     word_aside around (Some word.Var) p t ts = var_aside end d c g p ts
     word_aside around (Some word.If) p t ts = if_aside end d c g around p ts
@@ -61,13 +61,13 @@ module _ (end : Place) where
     word_aside around (Some word.With) p t ts = refl
     word_aside around (Some _) p t ts = evaluated_aside end d c g (t ∷ ts)
 
-    statement_by_aside : (around : Around) (k : TokenKind) (p : Place) (t : Token) (ts : List Token) → statement_by nowhere c around k nowhere (placeless (t ∷ ts)) (placeless ts) ≡ put_aside (both bare_statement) (statement_by end d around k p (t ∷ ts) ts)
+    statement_by_aside : (around : Around) (k : TokenKind) (p : Place) (t : Token) (ts : List Token) → statement_by nowhere c around k nowhere (placeless (t ∷ ts)) (placeless ts) ≡ put_aside (both placeless_statement) (statement_by end d around k p (t ∷ ts) ts)
     statement_by_aside around (token.Word w) p t ts = word_aside around (keyword_of w) p t ts
     statement_by_aside around (token.Sign sign.LeftBrace) p t ts = block_from_aside end d c g around p ts
     statement_by_aside around (token.Sign sign.Semicolon) p t ts = refl
     statement_by_aside around _ p t ts = evaluated_aside end d c g (t ∷ ts)
 
-    statement_aside : (around : Around) → Aside bare_statement (statement nowhere c around) (statement end d around)
+    statement_aside : (around : Around) → Aside placeless_statement (statement nowhere c around) (statement end d around)
     unfolding statement
     statement_aside around [] = refl
     statement_aside around (t ∷ ts) = statement_by_aside around t.kind t.place t ts
@@ -77,11 +77,11 @@ module _ (end : Place) where
   deeper_aside : (n : ℕ) → DeeperAside (deeper end n) (deeper nowhere n)
   unfolding deeper
   deeper_aside zero = record {
-    value = λ form ts. refused_aside end (both bare_expression) TooDeep ts;
-    operand = λ ts. refused_aside end (both bare_expression) TooDeep ts;
-    callee = λ ts. refused_aside end (both bare_expression) TooDeep ts;
-    statement = λ around ts. refused_aside end (both bare_statement) TooDeep ts;
-    block = λ around ts. refused_aside end (both bare_statement) TooDeep ts;
+    value = λ form ts. refused_aside end (both placeless_expression) TooDeep ts;
+    operand = λ ts. refused_aside end (both placeless_expression) TooDeep ts;
+    callee = λ ts. refused_aside end (both placeless_expression) TooDeep ts;
+    statement = λ around ts. refused_aside end (both placeless_statement) TooDeep ts;
+    block = λ around ts. refused_aside end (both placeless_statement) TooDeep ts;
   }
   deeper_aside (suc n) = record {
     value = λ form ts. assignment_aside end (deeper end n) (deeper nowhere n) (deeper_aside n) form ts;
@@ -93,14 +93,14 @@ module _ (end : Place) where
 
   -- ---- scripts
 
-  whole_aside : (body : List StatementTree) (ts : List Token) → whole (map bare_statement body) (placeless ts) ≡ put_aside (map bare_statement) (whole body ts)
+  whole_aside : (body : List StatementTree) (ts : List Token) → whole (map placeless_statement body) (placeless ts) ≡ put_aside (map placeless_statement) (whole body ts)
   whole_aside body [] = refl
   whole_aside body (t ∷ ts) = refl
 
-  script_aside : (room : ℕ) (ts : List Token) → script_within nowhere room (placeless ts) ≡ put_aside (map bare_statement) (script_within end room ts)
+  script_aside : (room : ℕ) (ts : List Token) → script_within nowhere room (placeless ts) ≡ put_aside (map placeless_statement) (script_within end room ts)
   unfolding script_within
   script_aside room ts =
-      step (both (map bare_statement)) (map bare_statement) (row (a_statement (deeper end room) at_top) ts) _ _ (row_aside bare_statement (a_statement (deeper end room) at_top) (a_statement (deeper nowhere room) at_top) (a_statement_aside end (deeper end room) (deeper nowhere room) (deeper_aside room) at_top) ts) (λ body.
+      step (both (map placeless_statement)) (map placeless_statement) (row (a_statement (deeper end room) at_top) ts) _ _ (row_aside placeless_statement (a_statement (deeper end room) at_top) (a_statement (deeper nowhere room) at_top) (a_statement_aside end (deeper end room) (deeper nowhere room) (deeper_aside room) at_top) ts) (λ body.
       whole_aside body.0 body.1)
 
 pub places_aside : PlacesArePutAside
@@ -111,5 +111,5 @@ given_back f (Ok x) y h = (x, refl, cc)
 given_back f (Err e) y h = cc
 
 -- so a script that placeless tokens spell is, with places put aside, the one that the tokens spell
-pub read_back : (end : Place) (room : ℕ) (ts : List Token) (other : List StatementTree) → script_within nowhere room (placeless ts) ≡ Ok other → (body : List StatementTree) × (script_within end room ts ≡ Ok body) × (map bare_statement body ≡ other)
-read_back end room ts other h = given_back (map bare_statement) (script_within end room ts) other (sym (places_aside end room ts) ∙ h)
+pub read_back : (end : Place) (room : ℕ) (ts : List Token) (other : List StatementTree) → script_within nowhere room (placeless ts) ≡ Ok other → (body : List StatementTree) × (script_within end room ts ≡ Ok body) × (map placeless_statement body ≡ other)
+read_back end room ts other h = given_back (map placeless_statement) (script_within end room ts) other (sym (places_aside end room ts) ∙ h)

@@ -9,7 +9,7 @@ use Rattle.js_tree.specs.declared.token.TokenKind.TheVariants as token
 use Rattle.js_tree.specs.declared.sign.Sign.{Sign}
 use Rattle.js_tree.specs.declared.sign.Sign.TheVariants as sign
 use Rattle.js_tree.specs.declared.refusal.ReadKind.{ReadKind}
-use Rattle.js_grammar.specs.declared.keyword.Keyword.{Keyword}
+use Rattle.js_tree.specs.declared.keyword.Keyword.{Keyword}
 use Rattle.js_grammar.specs.declared.turn.Turn.{Turn}
 use Rattle.js_grammar.specs.declared.turn.Turn.TheVariants.{More, Last, End}
 use Rattle.js_grammar.specs.declared.form.Form.{Form}
@@ -39,16 +39,16 @@ stays x = x
 
 -- a value and the tokens behind it
 abbrev pub both : {A : Type 0} → (A → A) → A × List Token → A × List Token
-both bare x = (bare x.0, placeless x.1)
+both strip x = (strip x.0, placeless x.1)
 
-abbrev pub bare_turn : {A : Type 0} → (A → A) → Turn A → Turn A
-bare_turn bare (More x) = More (bare x)
-bare_turn bare (Last x) = Last (bare x)
-bare_turn bare End = End
+abbrev pub placeless_turn : {A : Type 0} → (A → A) → Turn A → Turn A
+placeless_turn strip (More x) = More (strip x)
+placeless_turn strip (Last x) = Last (strip x)
+placeless_turn strip End = End
 
 -- The first reader gives of placeless tokens what the second gives of those with places, places put aside.
 abbrev pub Aside : {A : Type 0} → (A → A) → Reader A → Reader A → Type 0
-Aside bare placeless_reader reader = (ts : List Token) → placeless_reader (placeless ts) ≡ put_aside (both bare) (reader ts)
+Aside strip placeless_reader reader = (ts : List Token) → placeless_reader (placeless ts) ≡ put_aside (both strip) (reader ts)
 
 -- the same of readers of tokens alone
 abbrev pub SkipsAside : (List Token → Result (List Token) Refusal) → (List Token → Result (List Token) Refusal) → Type 0
@@ -110,27 +110,27 @@ assign_op_aside (t ∷ ts) = refl
 
 -- ---- rows
 
-turned_aside : {A : Type 0} (bare : A → A) (t : Turn A) (ts : List Token) (c m : Result (List A × List Token) Refusal) → c ≡ put_aside (both (map bare)) m → turned (bare_turn bare t) (placeless ts) c ≡ put_aside (both (map bare)) (turned t ts m)
-turned_aside bare (More x) ts c m e = step (both (map bare)) (both (map bare)) m _ _ e (λ xs. refl)
-turned_aside bare (Last x) ts c m e = refl
-turned_aside bare End ts c m e = refl
+turned_aside : {A : Type 0} (strip : A → A) (t : Turn A) (ts : List Token) (c m : Result (List A × List Token) Refusal) → c ≡ put_aside (both (map strip)) m → turned (placeless_turn strip t) (placeless ts) c ≡ put_aside (both (map strip)) (turned t ts m)
+turned_aside strip (More x) ts c m e = step (both (map strip)) (both (map strip)) m _ _ e (λ xs. refl)
+turned_aside strip (Last x) ts c m e = refl
+turned_aside strip End ts c m e = refl
 
-row_of_aside : {A : Type 0} (bare : A → A) (d c : Reader (Turn A)) → Aside (bare_turn bare) c d → (n : ℕ) → Aside (map bare) (row_of c n) (row_of d n)
+row_of_aside : {A : Type 0} (strip : A → A) (d c : Reader (Turn A)) → Aside (placeless_turn strip) c d → (n : ℕ) → Aside (map strip) (row_of c n) (row_of d n)
 unfolding row_of
-row_of_aside bare d c each zero ts = refl
-row_of_aside bare d c each (suc n) ts =
-    step (both (bare_turn bare)) (both (map bare)) (d ts) _ _ (each ts) (λ one. turned_aside bare one.0 one.1 (row_of c n (placeless one.1)) (row_of d n one.1) (row_of_aside bare d c each n one.1))
+row_of_aside strip d c each zero ts = refl
+row_of_aside strip d c each (suc n) ts =
+    step (both (placeless_turn strip)) (both (map strip)) (d ts) _ _ (each ts) (λ one. turned_aside strip one.0 one.1 (row_of c n (placeless one.1)) (row_of d n one.1) (row_of_aside strip d c each n one.1))
 
-pub row_aside : {A : Type 0} (bare : A → A) (d c : Reader (Turn A)) → Aside (bare_turn bare) c d → Aside (map bare) (row c) (row d)
-row_aside bare d c each ts =
-    ap (λ n. row_of c (suc n) (placeless ts)) (length-map ts placeless_token) ∙ row_of_aside bare d c each (suc (length ts)) ts
+pub row_aside : {A : Type 0} (strip : A → A) (d c : Reader (Turn A)) → Aside (placeless_turn strip) c d → Aside (map strip) (row c) (row d)
+row_aside strip d c each ts =
+    ap (λ n. row_of c (suc n) (placeless ts)) (length-map ts placeless_token) ∙ row_of_aside strip d c each (suc (length ts)) ts
 
-parted_by_aside : {A : Type 0} (bare : A → A) (s : Option Sign) (x : A) → Aside (bare_turn bare) (parted s (bare x)) (parted s x)
-parted_by_aside bare (Some sign.Comma) x ts = ap (λ r. Ok (More (bare x), r)) (rest_aside ts)
-parted_by_aside bare _ x ts = refl
+parted_by_aside : {A : Type 0} (strip : A → A) (s : Option Sign) (x : A) → Aside (placeless_turn strip) (parted s (strip x)) (parted s x)
+parted_by_aside strip (Some sign.Comma) x ts = ap (λ r. Ok (More (strip x), r)) (rest_aside ts)
+parted_by_aside strip _ x ts = refl
 
-pub parted_aside : {A : Type 0} (bare : A → A) (x : A) → Aside (bare_turn bare) (λ ts. parted (next_sign ts) (bare x) ts) (λ ts. parted (next_sign ts) x ts)
-parted_aside bare x ts = rw (sign_aside ts) (parted_by_aside bare (next_sign ts) x ts)
+pub parted_aside : {A : Type 0} (strip : A → A) (x : A) → Aside (placeless_turn strip) (λ ts. parted (next_sign ts) (strip x) ts) (λ ts. parted (next_sign ts) x ts)
+parted_aside strip x ts = rw (sign_aside ts) (parted_by_aside strip (next_sign ts) x ts)
 
 map_stays : {A : Type 0} (xs : List A) → map stays xs ≡ xs
 map_stays [] = refl
@@ -145,9 +145,9 @@ nowhere_at [] = refl
 nowhere_at (t ∷ ts) = refl
 
 module _ (end : Place) where
-  pub refused_aside : {A : Type 0} (bare : A → A) (kind : ReadKind) (ts : List Token) → refused nowhere kind (placeless ts) ≡ put_aside bare (refused end kind ts)
-  refused_aside bare kind [] = refl
-  refused_aside bare kind (t ∷ ts) = refl
+  pub refused_aside : {A : Type 0} (strip : A → A) (kind : ReadKind) (ts : List Token) → refused nowhere kind (placeless ts) ≡ put_aside strip (refused end kind ts)
+  refused_aside strip kind [] = refl
+  refused_aside strip kind (t ∷ ts) = refl
 
   -- ---- signs and names
 
@@ -198,16 +198,16 @@ module _ (end : Place) where
 
   -- ---- parts in brackets
 
-  listed_by_aside : {A : Type 0} (bare : A → A) (close : Sign) (s : Option Sign) (x : A) → Aside (bare_turn bare) (listed_by nowhere close s (bare x)) (listed_by end close s x)
-  listed_by_aside bare close (Some sign.Comma) x ts = ap (λ r. Ok (More (bare x), r)) (rest_aside ts)
-  listed_by_aside bare close _ x ts = step placeless (both (bare_turn bare)) (expect end close ts) _ _ (expect_aside close ts) (λ rest. refl)
+  listed_by_aside : {A : Type 0} (strip : A → A) (close : Sign) (s : Option Sign) (x : A) → Aside (placeless_turn strip) (listed_by nowhere close s (strip x)) (listed_by end close s x)
+  listed_by_aside strip close (Some sign.Comma) x ts = ap (λ r. Ok (More (strip x), r)) (rest_aside ts)
+  listed_by_aside strip close _ x ts = step placeless (both (placeless_turn strip)) (expect end close ts) _ _ (expect_aside close ts) (λ rest. refl)
 
-  pub listed_aside : {A : Type 0} (bare : A → A) (close : Sign) (x : A) → Aside (bare_turn bare) (listed nowhere close (bare x)) (listed end close x)
-  listed_aside bare close x ts = rw (sign_aside ts) (listed_by_aside bare close (next_sign ts) x ts)
+  pub listed_aside : {A : Type 0} (strip : A → A) (close : Sign) (x : A) → Aside (placeless_turn strip) (listed nowhere close (strip x)) (listed end close x)
+  listed_aside strip close x ts = rw (sign_aside ts) (listed_by_aside strip close (next_sign ts) x ts)
 
-  a_parameter_aside : Aside (bare_turn stays) (a_parameter nowhere) (a_parameter end)
+  a_parameter_aside : Aside (placeless_turn stays) (a_parameter nowhere) (a_parameter end)
   unfolding a_parameter
-  a_parameter_aside ts = step (both stays) (both (bare_turn stays)) (name end ts) _ _ (name_aside ts) (λ one. listed_aside stays sign.RightParenthesis one.0 one.1)
+  a_parameter_aside ts = step (both stays) (both (placeless_turn stays)) (name end ts) _ _ (name_aside ts) (λ one. listed_aside stays sign.RightParenthesis one.0 one.1)
 
   parameters_by_aside : (s : Option Sign) → Aside stays (parameters_by nowhere s) (parameters_by end s)
   parameters_by_aside (Some sign.RightParenthesis) ts = ap (λ r. Ok ([], r)) (rest_aside ts)

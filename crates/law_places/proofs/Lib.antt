@@ -4,5 +4,5 @@ pub mod AsideOperators
 pub mod AsideScripts
 pub mod AsideStatements
 pub mod Asides
-pub mod BareParts
+pub mod PlacelessParts
 pub mod FirstLine

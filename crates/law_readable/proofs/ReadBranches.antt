@@ -8,13 +8,14 @@ use Rattle.js_tree.specs.Tree.{StatementTree, If}
 use Rattle.js_tree.specs.View.{branches_of}
 use Rattle.js_grammar.specs.declared.turn.Turn.{Turn}
 use Rattle.js_grammar.specs.declared.turn.Turn.TheVariants.{More, Last, End}
-use Rattle.js_grammar.specs.declared.keyword.Keyword.{Keyword}
-use Rattle.js_grammar.specs.declared.keyword.Keyword.TheVariants as word
+use Rattle.js_tree.specs.declared.keyword.Keyword.{Keyword}
+use Rattle.js_tree.specs.declared.keyword.Keyword.TheVariants as word
 use Rattle.js_grammar.specs.declared.around.Around.{Around}
 use Rattle.js_grammar.specs.Reading.{Refusal}
 use Rattle.js_grammar.specs.Readers.{row, row_of, turned, rest_of, next_keyword}
 use Rattle.js_grammar.specs.Expressions.{Deeper, in_parentheses}
-use Rattle.js_grammar.specs.Statements.{inside, one_branch, branch_by, a_branch, otherwise_by, otherwise, if_statement, statement_or_none}
+use Rattle.js_grammar.specs.Statements.{inside, one_branch, branch_by, a_branch, otherwise_by, otherwise, if_statement}
+use Rattle.js_tree.specs.Parts.{statement_or_none}
 use Rattle.js_grammar.specs.Printing.{more_branches}
 use Rattle.law_readable.specs.Readable.{IsExpression, AreBranches, IsClosedBefore, IsStatement, ends_open, is_if}
 use Rattle.law_readable.proofs.Steps.{Where, step, rest_short, has_item}

@@ -7,13 +7,14 @@ use Rattle.js_tree.specs.declared.statement.Clause.{Clause}
 use Rattle.js_tree.specs.declared.statement.Catch.{Catch}
 use Rattle.js_tree.specs.Tree.{ExpressionTree, StatementTree, Clauses, a_clause, optional_of, statements_of}
 use Rattle.js_tree.specs.View.{clauses_of}
-use Rattle.js_grammar.specs.declared.keyword.Keyword.{Keyword}
-use Rattle.js_grammar.specs.declared.keyword.Keyword.TheVariants as word
+use Rattle.js_tree.specs.declared.keyword.Keyword.{Keyword}
+use Rattle.js_tree.specs.declared.keyword.Keyword.TheVariants as word
 use Rattle.js_grammar.specs.declared.form.Form.TheVariants.{Plain}
 use Rattle.js_grammar.specs.declared.around.Around.{Around}
 use Rattle.js_grammar.specs.Readers.{row, rest_of, next_keyword, expect, name}
 use Rattle.js_grammar.specs.Expressions.{Deeper, a_statement, expression, in_parentheses}
-use Rattle.js_grammar.specs.Statements.{inside, in_switch, clause_from, case_by, a_case, default_by, clauses, switch_statement, catch_by, catch_part, finally_by, finally_part, tried, try_statement, has_part, catch_or_none, statement_or_none}
+use Rattle.js_grammar.specs.Statements.{inside, in_switch, clause_from, case_by, a_case, default_by, clauses, switch_statement, catch_by, catch_part, finally_by, finally_part, tried, try_statement, has_part}
+use Rattle.js_tree.specs.Parts.{catch_or_none, statement_or_none}
 use Rattle.law_readable.specs.Readable.{IsName, IsExpression, IsStatement, AreClauses, IsCatch, IsFinally, is_caught, is_given}
 use Rattle.law_readable.proofs.Steps.{step, OfOption, Reads, rest_short, Every, OfTurn, row_reads}
 use Rattle.law_readable.proofs.ReadParts.{expect_short, name_reads}

@@ -12,8 +12,8 @@ use Rattle.js_tree.specs.declared.expression.Suffix.{Suffix}
 use Rattle.js_tree.specs.declared.expression.Function.{Function as FunctionRecord}
 use Rattle.js_tree.specs.Tree.{ExpressionTree, StatementTree, optional_of, expressions_of, items_of, statements_of}
 use Rattle.js_tree.specs.View.{properties_of, suffix_of, suffixes_of, function_of}
-use Rattle.js_grammar.specs.declared.keyword.Keyword.{Keyword}
-use Rattle.js_grammar.specs.declared.keyword.Keyword.TheVariants as word
+use Rattle.js_tree.specs.declared.keyword.Keyword.{Keyword}
+use Rattle.js_tree.specs.declared.keyword.Keyword.TheVariants as word
 use Rattle.js_grammar.specs.declared.form.Form.{Form}
 use Rattle.js_grammar.specs.declared.form.Form.TheVariants.{Plain}
 use Rattle.js_grammar.specs.declared.form.LeftSide.{LeftSide}

@@ -6,8 +6,8 @@ use Rattle.js_tree.specs.declared.sign.Sign.TheVariants as sign
 use Rattle.js_tree.specs.declared.statement.Declared.{Declared}
 use Rattle.js_tree.specs.Tree.{ExpressionTree, StartTree, no_start, start_var, start_value, TargetTree, target_value, target_declared, optional_of}
 use Rattle.js_tree.specs.View.{declarations_of}
-use Rattle.js_grammar.specs.declared.keyword.Keyword.{Keyword}
-use Rattle.js_grammar.specs.declared.keyword.Keyword.TheVariants as word
+use Rattle.js_tree.specs.declared.keyword.Keyword.{Keyword}
+use Rattle.js_tree.specs.declared.keyword.Keyword.TheVariants as word
 use Rattle.js_grammar.specs.declared.form.Form.TheVariants.{NoIn}
 use Rattle.js_grammar.specs.declared.around.Around.{Around}
 use Rattle.js_grammar.specs.Readers.{row, rest_of, next_sign, next_keyword, is_sign, place_at, expect}

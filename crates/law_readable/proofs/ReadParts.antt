@@ -6,7 +6,7 @@ use Rattle.js_tree.specs.declared.token.TokenKind.{TokenKind}
 use Rattle.js_tree.specs.declared.token.TokenKind.TheVariants as token
 use Rattle.js_tree.specs.declared.sign.Sign.{Sign}
 use Rattle.js_tree.specs.declared.sign.Sign.TheVariants as sign
-use Rattle.js_grammar.specs.declared.keyword.Keyword.{Keyword}
+use Rattle.js_tree.specs.declared.keyword.Keyword.{Keyword}
 use Rattle.js_grammar.specs.Words.{keyword_of}
 use Rattle.js_grammar.specs.Readers.{sign_of, next_sign, is_sign, taken_if, expect, name, name_if, name_by, any_word, word_by, semicolon, semicolon_by, listed, listed_by, parameters, parameters_by, a_parameter}
 use Rattle.law_readable.specs.Readable.{IsName}

@@ -8,8 +8,8 @@ use Rattle.js_tree.specs.declared.bound.BoundName.{BoundName}
 use Rattle.js_tree.specs.declared.statement.Declared.{Declared}
 use Rattle.js_tree.specs.Tree.{StatementTree, Block, Return, optional_of}
 use Rattle.js_tree.specs.View.{declarations_of}
-use Rattle.js_grammar.specs.declared.keyword.Keyword.{Keyword}
-use Rattle.js_grammar.specs.declared.keyword.Keyword.TheVariants as word
+use Rattle.js_tree.specs.declared.keyword.Keyword.{Keyword}
+use Rattle.js_tree.specs.declared.keyword.Keyword.TheVariants as word
 use Rattle.js_grammar.specs.declared.form.Form.{Form}
 use Rattle.js_grammar.specs.declared.form.Form.TheVariants.{Plain}
 use Rattle.js_grammar.specs.declared.around.Around.{Around}

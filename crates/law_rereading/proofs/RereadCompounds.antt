@@ -11,17 +11,18 @@ use Rattle.js_tree.specs.declared.statement.Catch.{Catch}
 use Rattle.js_tree.specs.Tree.{ExpressionTree, absent, present, StatementTree, If, Switch, Try, OptionalStatement, omitted, given, Statements, Branches, no_branch, a_branch, Clauses, no_clause, a_clause, CatchTree, no_catch, a_catch}
 use Rattle.js_tree.specs.View.{branches_of}
 use Rattle.js_grammar.specs.declared.turn.Turn.TheVariants.{More, Last}
-use Rattle.js_grammar.specs.declared.keyword.Keyword.{Keyword}
-use Rattle.js_grammar.specs.declared.keyword.Keyword.TheVariants as word
+use Rattle.js_tree.specs.declared.keyword.Keyword.{Keyword}
+use Rattle.js_tree.specs.declared.keyword.Keyword.TheVariants as word
 use Rattle.js_grammar.specs.declared.form.Form.TheVariants.{Plain}
 use Rattle.js_grammar.specs.declared.around.Around.{Around}
 use Rattle.js_grammar.specs.Readers.{row_of, row, rest_of, next_keyword, expect}
 use Rattle.js_grammar.specs.Expressions.{Deeper, a_statement as statement_turn, closes}
-use Rattle.js_grammar.specs.Statements.{deeper, statement, inside, in_switch, one_branch, a_branch as branch_turn, branch_by, otherwise, if_statement, default_by, has_part, catch_by, finally_by, clause_from, a_case, clauses, switch_statement, catch_part, finally_part, try_statement, statement_or_none, catch_or_none}
+use Rattle.js_grammar.specs.Statements.{deeper, statement, inside, in_switch, one_branch, a_branch as branch_turn, branch_by, otherwise, if_statement, default_by, has_part, catch_by, finally_by, clause_from, a_case, clauses, switch_statement, catch_part, finally_part, try_statement}
+use Rattle.js_tree.specs.Parts.{statement_or_none, catch_or_none}
 use Rattle.js_grammar.specs.Printing.{nowhere, sign_token, keyword_token, in_round, in_braces, else_if, more_branches, expression_tokens, statement_tokens, statements_tokens, finally_tokens, branches_tokens, clauses_tokens, catch_tokens}
-use Rattle.js_grammar.specs.Bare.{bare_expression, bare_statement, bare_optional_statement, bare_catch}
+use Rattle.js_grammar.specs.Placeless.{placeless_expression, placeless_statement, placeless_optional_statement, placeless_catch}
 use Rattle.law_readable.specs.Readable.{IsName, IsExpression, IsStatement, IsClosedBefore, ends_open, is_if, is_given, is_caught}
-use Rattle.law_rereading.proofs.Lists.{statement_list, branch_list, clause_list, branches_bare, clauses_bare}
+use Rattle.law_rereading.proofs.Lists.{statement_list, branch_list, clause_list, branches_placeless, clauses_placeless}
 use Rattle.law_rereading.proofs.RereadParts.{row_more, row_last, row_end, stops_colon, closed}
 use Rattle.law_rereading.proofs.RereadExpressions.{Rereads, expression_again, round_again}
 use Rattle.law_rereading.proofs.RereadStatements.{is_handler_word, begins_handler, no_handler, begins_part, no_if_statement, IsFree, free_always, free_closed, RereadsStatement, block_at, nested_again, RereadsStatements, name_reads}
@@ -52,7 +53,7 @@ module _ (end : Place) where
   pub no_branches : (a : Around) (last : Bool) → RereadsBranches a last no_branch
   no_branches a last room n rest fits le some at_end = cc
 
-  one_reads : (a : Around) (c : ExpressionTree) (s : StatementTree) (room : ℕ) (rest : List Token) → IsExpression c → Rereads end c → RereadsStatement end (inside a) s → length (expression_tokens c) < room → length (statement_tokens s) < room → IsFree (ends_open s) rest → one_branch end (deeper end room) a (in_round (expression_tokens c) ++ (statement_tokens s ++ rest)) ≡ Ok (record { condition = bare_expression c; body = bare_statement s }, rest)
+  one_reads : (a : Around) (c : ExpressionTree) (s : StatementTree) (room : ℕ) (rest : List Token) → IsExpression c → Rereads end c → RereadsStatement end (inside a) s → length (expression_tokens c) < room → length (statement_tokens s) < room → IsFree (ends_open s) rest → one_branch end (deeper end room) a (in_round (expression_tokens c) ++ (statement_tokens s ++ rest)) ≡ Ok (record { condition = placeless_expression c; body = placeless_statement s }, rest)
   unfolding one_branch
   one_reads a c s room rest is again_c again_s fits_c fits_s free = rw (round_again end c room (statement_tokens s ++ rest) is again_c fits_c, nested_again end (inside a) s room rest again_s fits_s free) refl
 
@@ -69,7 +70,7 @@ module _ (end : Place) where
       let size3 = length-append (in_round (expression_tokens c)) (statement_tokens s ++ []) in
       let d = deeper end room in
       let ts = in_round (expression_tokens c) ++ (statement_tokens s ++ rest) in
-      let b : Branch = record { condition = bare_expression c; body = bare_statement s } in
+      let b : Branch = record { condition = placeless_expression c; body = placeless_statement s } in
       let one = one_reads a c s room rest is again_c again_s (omega (arith, size, size2, size3)) (omega (arith, size, size2, size3)) (closed_free last s rest shut at_end) in
       let turn : branch_turn end d a ts ≡ Ok (Last b, rest) = rw one (at_end.branch b) in
       rw (append_assoc (in_round (expression_tokens c)) (statement_tokens s ++ []) rest, append_assoc (statement_tokens s) [] rest) (row_last (branch_turn end d a) (suc n) ts rest b turn)
@@ -82,7 +83,7 @@ module _ (end : Place) where
       let more = drop 1 tail ++ rest in
       let behind = keyword_token word.Else ∷ (tail ++ rest) in
       let ts = in_round (expression_tokens c) ++ (statement_tokens s ++ behind) in
-      let b : Branch = record { condition = bare_expression c; body = bare_statement s } in
+      let b : Branch = record { condition = placeless_expression c; body = placeless_statement s } in
       let one = one_reads a c s room behind is again_c again_s (omega (arith, size, size2, size3)) (omega (arith, size, size2, size3)) (free_closed (ends_open s) behind shut refl) in
       let turn : branch_turn end d a ts ≡ Ok (More b, more) = rw one refl in
       rw (append_assoc (in_round (expression_tokens c)) (statement_tokens s ++ keyword_token word.Else ∷ tail) rest, append_assoc (statement_tokens s) (keyword_token word.Else ∷ tail) rest) (row_more (branch_turn end d a) (suc n) ts more rest b (branch_list (a_branch e t bs)) turn (others room n rest (omega (arith, size, size2, size3)) (omega (arith, size, size2, size3)) refl at_end))
@@ -112,7 +113,7 @@ module _ (end : Place) where
       let at_end : EndsBranches false rest = record { branch = λ b. last_branch end (next_keyword rest) (next_keyword (rest_of rest)) b rest free; free = λ h. free; calm = no_handler (next_keyword rest) free } in
       let list : row (branch_turn end d a) ts ≡ Ok (branch_list bs, rest) = again room (length ts) rest (omega (arith, size)) (if_size bs rest) some at_end in
       let none : otherwise end d a rest ≡ Ok (None, rest) = no_otherwise end d a (next_keyword rest) rest free in
-      rw (append_assoc (branches_tokens bs) [] rest, first_if bs rest some) (if_reads d a ts rest rest (branch_list bs) None list none ∙ ap (λ (x : Branches). Ok (If nowhere x omitted, rest)) (branches_bare bs))
+      rw (append_assoc (branches_tokens bs) [] rest, first_if bs rest some) (if_reads d a ts rest rest (branch_list bs) None list none ∙ ap (λ (x : Branches). Ok (If nowhere x omitted, rest)) (branches_placeless bs))
 
   pub if_else_node : (p : Place) (a : Around) (bs : Branches) (s : StatementTree) → more_branches bs ≡ true → is_if s ≡ false → IsStatement (inside a) s → RereadsBranches a true bs → RereadsStatement end (inside a) s → RereadsStatement end a (If p bs (given s))
   unfolding expression_tokens otherwise
@@ -125,14 +126,14 @@ module _ (end : Place) where
       let no_if = no_if_statement (inside a) s rest other is in
       let at_end : EndsBranches true behind = record { branch = λ b. branch_before_else end (next_keyword (statement_tokens s ++ rest)) b behind no_if; free = λ h. cc; calm = refl } in
       let list : row (branch_turn end d a) ts ≡ Ok (branch_list bs, behind) = again room (length ts) behind (omega (arith, size)) (if_size bs behind) some at_end in
-      let last : otherwise end d a behind ≡ Ok (Some (bare_statement s), rest) = rw (nested_again end (inside a) s room rest again_s (omega (arith, size)) free) refl in
-      rw (append_assoc (branches_tokens bs) tail rest, first_if bs behind some) (if_reads d a ts behind rest (branch_list bs) (Some (bare_statement s)) list last ∙ ap (λ (x : Branches). Ok (If nowhere x (given (bare_statement s)), rest)) (branches_bare bs))
+      let last : otherwise end d a behind ≡ Ok (Some (placeless_statement s), rest) = rw (nested_again end (inside a) s room rest again_s (omega (arith, size)) free) refl in
+      rw (append_assoc (branches_tokens bs) tail rest, first_if bs behind some) (if_reads d a ts behind rest (branch_list bs) (Some (placeless_statement s)) list last ∙ ap (λ (x : Branches). Ok (If nowhere x (given (placeless_statement s)), rest)) (branches_placeless bs))
 
   -- ---- `switch`
 
   -- the clauses before the `default`, and those from it on
   abbrev pub leading : Clauses → List Clause
-  leading (a_clause (present e) ss cs) = record { test = Some (bare_expression e); body = statement_list ss } ∷ leading cs
+  leading (a_clause (present e) ss cs) = record { test = Some (placeless_expression e); body = statement_list ss } ∷ leading cs
   leading _ = []
 
   abbrev pub following : Clauses → Clauses
@@ -152,7 +153,7 @@ module _ (end : Place) where
   leading_all : (cs : Clauses) → clause_list cs ≡ leading cs ++ clause_list (following cs)
   leading_all no_clause = refl
   leading_all (a_clause absent ss cs) = refl
-  leading_all (a_clause (present e) ss cs) = ap (λ (xs : List Clause). record { test = Some (bare_expression e); body = statement_list ss } ∷ xs) (leading_all cs)
+  leading_all (a_clause (present e) ss cs) = ap (λ (xs : List Clause). record { test = Some (placeless_expression e); body = statement_list ss } ∷ xs) (leading_all cs)
 
   abbrev pub braced : List Token → List Token
   braced rest = sign_token sign.RightBrace ∷ rest
@@ -202,8 +203,8 @@ module _ (end : Place) where
       let more = clauses_tokens cs ++ braced rest in
       let us = sign_token sign.Colon ∷ (statements_tokens ss ++ more) in
       let ts = keyword_token word.Case ∷ (expression_tokens e ++ us) in
-      let c : Clause = record { test = Some (bare_expression e); body = statement_list ss } in
-      let turn : a_case end d a ts ≡ Ok (More c, more) = rw (expression_again end e room Plain us is again_e (omega (arith, size, size2, size3)) (stops_colon end (deeper end (room - 1)) Plain (statements_tokens ss ++ more)) refl, body_reads a (Some (bare_expression e)) ss cs room rest again_s (omega (arith, size, size2, size3))) refl in
+      let c : Clause = record { test = Some (placeless_expression e); body = statement_list ss } in
+      let turn : a_case end d a ts ≡ Ok (More c, more) = rw (expression_again end e room Plain us is again_e (omega (arith, size, size2, size3)) (stops_colon end (deeper end (room - 1)) Plain (statements_tokens ss ++ more)) refl, body_reads a (Some (placeless_expression e)) ss cs room rest again_s (omega (arith, size, size2, size3))) refl in
       rw (append_assoc (expression_tokens e ++ colon) tail (braced rest), append_assoc (expression_tokens e) colon (tail ++ braced rest), append_assoc (statements_tokens ss) (clauses_tokens cs) (braced rest)) (row_more (a_case end d a) (suc n) ts more (clauses_tokens (following cs) ++ braced rest) c (leading cs) turn (others room n rest (omega (arith, size, size2, size3)) (omega (arith, size, size2, size3))))
 
   following_shorter : (cs : Clauses) → length (clauses_tokens (following cs)) ≤ length (clauses_tokens cs)
@@ -248,7 +249,7 @@ module _ (end : Place) where
       let size2 = length-append (clauses_tokens cs) (sign_token sign.RightBrace ∷ []) in
       let size3 = length-append (in_round (expression_tokens e)) inside_braces in
       let all = clauses_end (in_switch a) cs room rest cases default (omega (arith, size, size2, size3)) (omega (arith, size, size2, size3, following_shorter cs)) in
-      rw (append_assoc (in_round (expression_tokens e)) inside_braces rest, round_again end e room (inside_braces ++ rest) is again (omega (arith, size, size2, size3)), append_assoc (clauses_tokens cs) (sign_token sign.RightBrace ∷ []) rest, all) (ap (λ (x : Clauses). Ok (Switch nowhere (bare_expression e) x, rest)) (clauses_bare cs))
+      rw (append_assoc (in_round (expression_tokens e)) inside_braces rest, round_again end e room (inside_braces ++ rest) is again (omega (arith, size, size2, size3)), append_assoc (clauses_tokens cs) (sign_token sign.RightBrace ∷ []) rest, all) (ap (λ (x : Clauses). Ok (Switch nowhere (placeless_expression e) x, rest)) (clauses_placeless cs))
 
   -- ---- `try`
 
@@ -256,7 +257,7 @@ module _ (end : Place) where
   unfolding statement try_statement
   try_reads d a ts us vs rest s c f b g h part = rw (b, g, h, part) refl
 
-  try_blocks : (a : Around) (s t : StatementTree) (room : ℕ) (rest : List Token) → RereadsBlock end a s → length (statement_tokens s) < room → (deeper end room).block a (statement_tokens s ++ rest) ≡ Ok (bare_statement s, rest)
+  try_blocks : (a : Around) (s t : StatementTree) (room : ℕ) (rest : List Token) → RereadsBlock end a s → length (statement_tokens s) < room → (deeper end room).block a (statement_tokens s ++ rest) ≡ Ok (placeless_statement s, rest)
   try_blocks a s t room rest again fits = block_at end room a (statement_tokens s ++ rest) (omega arith) ∙ again (room - 1) rest (omega arith)
 
   abbrev pub RereadsCatch : Around → CatchTree → Type 0
@@ -269,11 +270,11 @@ module _ (end : Place) where
 
   abbrev pub catch_record : CatchTree → Option Catch
   catch_record no_catch = None
-  catch_record (a_catch x s) = Some (record { name = x; body = bare_statement s })
+  catch_record (a_catch x s) = Some (record { name = x; body = placeless_statement s })
 
   abbrev pub finally_record : OptionalStatement → Option StatementTree
   finally_record omitted = None
-  finally_record (given s) = Some (bare_statement s)
+  finally_record (given s) = Some (placeless_statement s)
 
   -- a `catch` or none, before what begins no `catch`
   catch_again : (a : Around) (c : CatchTree) (room : ℕ) (rest : List Token) → RereadsCatch a c → length (catch_tokens c) ≤ room → catch_part end (deeper end room) a rest ≡ Ok (None, rest) → catch_part end (deeper end room) a (catch_tokens c ++ rest) ≡ Ok (catch_record c, rest)
@@ -297,13 +298,13 @@ module _ (end : Place) where
   has_caught (a_catch x s) omitted h = refl
   has_caught (a_catch x s) (given t) h = refl
 
-  catch_bare : (c : CatchTree) → catch_or_none (catch_record c) ≡ bare_catch c
-  catch_bare no_catch = refl
-  catch_bare (a_catch x s) = refl
+  catch_placeless : (c : CatchTree) → catch_or_none (catch_record c) ≡ placeless_catch c
+  catch_placeless no_catch = refl
+  catch_placeless (a_catch x s) = refl
 
-  finally_bare : (f : OptionalStatement) → statement_or_none (finally_record f) ≡ bare_optional_statement f
-  finally_bare omitted = refl
-  finally_bare (given s) = refl
+  finally_placeless : (f : OptionalStatement) → statement_or_none (finally_record f) ≡ placeless_optional_statement f
+  finally_placeless omitted = refl
+  finally_placeless (given s) = refl
 
   pub try_node : (p : Place) (a : Around) (s : StatementTree) (c : CatchTree) (f : OptionalStatement) → (is_caught c || is_given f) ≡ true → RereadsBlock end (inside a) s → RereadsCatch a c → RereadsFinally a f → RereadsStatement end a (Try p s c f)
   unfolding expression_tokens catch_part finally_part
@@ -320,4 +321,4 @@ module _ (end : Place) where
       let block_read = try_blocks (inside a) s s room us again (omega (arith, size, size2)) in
       let catch_read = catch_again a c room vs again_c (omega (arith, size, size2)) none_c in
       let last_read = finally_again a f room rest again_f (omega (arith, size, size2)) none_f in
-      rw (append_assoc (statement_tokens s) tail rest, append_assoc (catch_tokens c) (finally_tokens f) rest) (try_reads d a ts us vs rest (bare_statement s) (catch_record c) (finally_record f) block_read catch_read last_read (has_caught c f has) ∙ ap (λ (x : CatchTree). Ok (Try nowhere (bare_statement s) x (statement_or_none (finally_record f)), rest)) (catch_bare c) ∙ ap (λ (x : OptionalStatement). Ok (Try nowhere (bare_statement s) (bare_catch c) x, rest)) (finally_bare f))
+      rw (append_assoc (statement_tokens s) tail rest, append_assoc (catch_tokens c) (finally_tokens f) rest) (try_reads d a ts us vs rest (placeless_statement s) (catch_record c) (finally_record f) block_read catch_read last_read (has_caught c f has) ∙ ap (λ (x : CatchTree). Ok (Try nowhere (placeless_statement s) x (statement_or_none (finally_record f)), rest)) (catch_placeless c) ∙ ap (λ (x : OptionalStatement). Ok (Try nowhere (placeless_statement s) (placeless_catch c) x, rest)) (finally_placeless f))

@@ -11,8 +11,8 @@ use Rattle.js_tree.specs.declared.statement.Branch.{Branch}
 use Rattle.js_tree.specs.Tree.{ExpressionTree, Name, Update, Function, OptionalExpression, absent, present, FunctionTree, a_function, StatementTree, Block, Empty, Evaluate, Debugger, Var, DoWhile, While, Continue, Break, Return, Throw, Declare, Statements, Declarations, no_declared, a_declared}
 use Rattle.js_tree.specs.View.{function_of}
 use Rattle.js_grammar.specs.declared.turn.Turn.TheVariants.{More, Last}
-use Rattle.js_grammar.specs.declared.keyword.Keyword.{Keyword}
-use Rattle.js_grammar.specs.declared.keyword.Keyword.TheVariants as word
+use Rattle.js_tree.specs.declared.keyword.Keyword.{Keyword}
+use Rattle.js_tree.specs.declared.keyword.Keyword.TheVariants as word
 use Rattle.js_grammar.specs.declared.form.Form.{Form}
 use Rattle.js_grammar.specs.declared.form.Form.TheVariants.{Plain, NoIn}
 use Rattle.js_grammar.specs.declared.around.Around.{Around}
@@ -20,9 +20,9 @@ use Rattle.js_grammar.specs.Readers.{row_of, row, next_sign, parted, expect, sem
 use Rattle.js_grammar.specs.Expressions.{Deeper, primary, expression, a_statement as statement_turn, function_from, function_expression}
 use Rattle.js_grammar.specs.Statements.{deeper, statement, evaluated, block, block_from, inside, in_loop, var_statement, a_declared as declared_turn, first_value, first_value_by, branch_by, otherwise_by, do_statement, while_statement, return_statement, ends, throw_statement, begins_line, function_statement}
 use Rattle.js_grammar.specs.Printing.{nowhere, sign_token, word_token, keyword_token, in_round, in_braces, more_declared, own_name_tokens, expression_tokens, function_tokens, statement_tokens, statements_tokens, first_value_tokens, declarations_tokens}
-use Rattle.js_grammar.specs.Bare.{bare_expression, bare_function, bare_statement, bare_statements}
+use Rattle.js_grammar.specs.Placeless.{placeless_expression, placeless_function, placeless_statement, placeless_statements}
 use Rattle.law_readable.specs.Readable.{IsName, IsOwnName, IsExpression, IsOptional, ends_open}
-use Rattle.law_rereading.proofs.Lists.{option_of, statement_list, declared_list, function_record, statements_bare, declarations_bare}
+use Rattle.law_rereading.proofs.Lists.{option_of, statement_list, declared_list, function_record, statements_placeless, declarations_placeless}
 use Rattle.law_rereading.proofs.RereadParts.{row_more, row_last, Stops, stops_parenthesis, stops_comma, stops_semicolon, stops_in, value_of_unary, unary_reads, closed, brackets_at}
 use Rattle.law_rereading.proofs.RereadExpressions.{Rereads, begins_nowhere, value_again, expression_again, round_again}
 use Rattle.law_rereading.proofs.RereadStatements.{is_part_word, is_if_word, free_always, RereadsStatement, nested_again, RereadsStatements, name_reads, RereadsFunction}
@@ -56,28 +56,28 @@ module _ (end : Place) where
   own_again d (a_function None xs names body) rest is again = again None
   own_again d (a_function (Some x) xs names body) rest is again = rw (name_reads end x (function_tokens (a_function (Some x) xs names body) ++ rest) is) (again (Some x))
 
-  function_reads : (d : Deeper) (f : FunctionTree) (ts rest : List Token) → function_of (function_record f) ≡ bare_function f → function_expression end d ts ≡ Ok (function_record f, rest) → primary end d (keyword_token word.Function ∷ ts) ≡ Ok (Function nowhere (bare_function f), rest)
+  function_reads : (d : Deeper) (f : FunctionTree) (ts rest : List Token) → function_of (function_record f) ≡ placeless_function f → function_expression end d ts ≡ Ok (function_record f, rest) → primary end d (keyword_token word.Function ∷ ts) ≡ Ok (Function nowhere (placeless_function f), rest)
   unfolding primary
-  function_reads d f ts rest bare h = rw h (ap (λ (g : FunctionTree). Ok (Function nowhere g, rest)) bare)
+  function_reads d f ts rest placeless h = rw h (ap (λ (g : FunctionTree). Ok (Function nowhere g, rest)) placeless)
 
-  pub function_node : (f : FunctionTree) (room : ℕ) (rest : List Token) → IsOwnName (own_of f) → function_of (function_record f) ≡ bare_function f → RereadsFunction end f → length (in_round (keyword_token word.Function ∷ (own_name_tokens f ++ function_tokens f))) ≤ room → primary end (deeper end room) (in_round (keyword_token word.Function ∷ (own_name_tokens f ++ function_tokens f)) ++ rest) ≡ Ok (Function nowhere (bare_function f), rest)
-  function_node f room rest is bare again fits =
+  pub function_node : (f : FunctionTree) (room : ℕ) (rest : List Token) → IsOwnName (own_of f) → function_of (function_record f) ≡ placeless_function f → RereadsFunction end f → length (in_round (keyword_token word.Function ∷ (own_name_tokens f ++ function_tokens f))) ≤ room → primary end (deeper end room) (in_round (keyword_token word.Function ∷ (own_name_tokens f ++ function_tokens f)) ++ rest) ≡ Ok (Function nowhere (placeless_function f), rest)
+  function_node f room rest is placeless again fits =
       let size = length-append (own_name_tokens f) (function_tokens f) in
       let size2 = length-append (own_name_tokens f ++ function_tokens f) (sign_token sign.RightParenthesis ∷ []) in
       let d = deeper end (room - 1) in
       let ts = own_name_tokens f ++ (function_tokens f ++ closed end rest) in
       let own = own_again d f (closed end rest) is (λ (own : Option BoundName). again (room - 1) own (closed end rest) (omega (arith, size, size2))) in
-      let read = function_reads d f ts (closed end rest) bare own in
+      let read = function_reads d f ts (closed end rest) placeless own in
       let stops = stops_parenthesis end d Plain rest in
-      brackets_at end room (keyword_token word.Function ∷ (own_name_tokens f ++ function_tokens f)) rest (Function nowhere (bare_function f)) (omega arith)
-      (rw (append_assoc (own_name_tokens f) (function_tokens f) (closed end rest)) (value_of_unary end d Plain (keyword_token word.Function ∷ ts) (closed end rest) (Function nowhere (bare_function f)) (unary_reads end d (keyword_token word.Function ∷ ts) (closed end rest) (Function nowhere (bare_function f)) refl refl read stops.suffix stops.postfix) stops))
+      brackets_at end room (keyword_token word.Function ∷ (own_name_tokens f ++ function_tokens f)) rest (Function nowhere (placeless_function f)) (omega arith)
+      (rw (append_assoc (own_name_tokens f) (function_tokens f) (closed end rest)) (value_of_unary end d Plain (keyword_token word.Function ∷ ts) (closed end rest) (Function nowhere (placeless_function f)) (unary_reads end d (keyword_token word.Function ∷ ts) (closed end rest) (Function nowhere (placeless_function f)) refl refl read stops.suffix stops.postfix) stops))
 
-  pub declare_node : (p : Place) (a : Around) (x : BoundName) (f : FunctionTree) → a.direct ≡ true → IsName x → own_of f ≡ None → function_of (function_record f) ≡ bare_function f → RereadsFunction end f → RereadsStatement end a (Declare p x f)
+  pub declare_node : (p : Place) (a : Around) (x : BoundName) (f : FunctionTree) → a.direct ≡ true → IsName x → own_of f ≡ None → function_of (function_record f) ≡ placeless_function f → RereadsFunction end f → RereadsStatement end a (Declare p x f)
   unfolding expression_tokens statement function_statement
-  declare_node p a x (a_function own xs names body) direct is anonymous bare again room rest fits free =
+  declare_node p a x (a_function own xs names body) direct is anonymous placeless again room rest fits free =
       let f = a_function own xs names body in
       let record_is : record (function_record f) { name = None } ≡ function_record f = ap (λ (o : Option BoundName). record (function_record f) { name = o }) (sym anonymous) in
-      rw (name_reads end x (function_tokens f ++ rest) is, direct, again room None rest (omega arith)) (ap (λ (r : FunctionRecord). Ok (Declare nowhere x (function_of r), rest)) record_is ∙ ap (λ (g : FunctionTree). Ok (Declare nowhere x g, rest)) bare)
+      rw (name_reads end x (function_tokens f ++ rest) is, direct, again room None rest (omega arith)) (ap (λ (r : FunctionRecord). Ok (Declare nowhere x (function_of r), rest)) record_is ∙ ap (λ (g : FunctionTree). Ok (Declare nowhere x g, rest)) placeless)
 
   -- ---- expression statements and blocks
 
@@ -99,13 +99,13 @@ module _ (end : Place) where
       let behind = sign_token sign.Semicolon ∷ rest in
       let d = deeper end room in
       let value = expression_again end e room Plain behind is again (omega (arith, size)) (stops_semicolon end (deeper end (room - 1)) Plain rest) refl in
-      rw (append_assoc (expression_tokens e) (sign_token sign.Semicolon ∷ []) rest) (begins_evaluated d a e rest is ∙ evaluated_reads d (expression_tokens e ++ behind) rest (bare_expression e) value ∙ ap (λ (q : Place). Ok (Evaluate q (bare_expression e), rest)) (begins_nowhere end e behind))
+      rw (append_assoc (expression_tokens e) (sign_token sign.Semicolon ∷ []) rest) (begins_evaluated d a e rest is ∙ evaluated_reads d (expression_tokens e ++ behind) rest (placeless_expression e) value ∙ ap (λ (q : Place). Ok (Evaluate q (placeless_expression e), rest)) (begins_nowhere end e behind))
 
-  block_reads : (d : Deeper) (a : Around) (ts rest : List Token) (ss : Statements) → row (statement_turn d (inside a)) ts ≡ Ok (statement_list ss, sign_token sign.RightBrace ∷ rest) → block_from end d a nowhere ts ≡ Ok (Block nowhere (bare_statements ss), rest)
+  block_reads : (d : Deeper) (a : Around) (ts rest : List Token) (ss : Statements) → row (statement_turn d (inside a)) ts ≡ Ok (statement_list ss, sign_token sign.RightBrace ∷ rest) → block_from end d a nowhere ts ≡ Ok (Block nowhere (placeless_statements ss), rest)
   unfolding block_from expect
-  block_reads d a ts rest ss list = rw list (ap (λ (x : Statements). Ok (Block nowhere x, rest)) (statements_bare ss))
+  block_reads d a ts rest ss list = rw list (ap (λ (x : Statements). Ok (Block nowhere x, rest)) (statements_placeless ss))
 
-  block_inside : (a : Around) (ss : Statements) (room : ℕ) (rest : List Token) → RereadsStatements end (inside a) ss → length (in_braces (statements_tokens ss)) ≤ room → block_from end (deeper end room) a nowhere (statements_tokens ss ++ sign_token sign.RightBrace ∷ rest) ≡ Ok (Block nowhere (bare_statements ss), rest)
+  block_inside : (a : Around) (ss : Statements) (room : ℕ) (rest : List Token) → RereadsStatements end (inside a) ss → length (in_braces (statements_tokens ss)) ≤ room → block_from end (deeper end room) a nowhere (statements_tokens ss ++ sign_token sign.RightBrace ∷ rest) ≡ Ok (Block nowhere (placeless_statements ss), rest)
   block_inside a ss room rest again fits =
       let size = length-append (statements_tokens ss) (sign_token sign.RightBrace ∷ []) in
       let behind = sign_token sign.RightBrace ∷ rest in
@@ -119,7 +119,7 @@ module _ (end : Place) where
 
   -- a block that stands where only a block may
   abbrev pub RereadsBlock : Around → StatementTree → Type 0
-  RereadsBlock a s = (room : ℕ) (rest : List Token) → length (statement_tokens s) ≤ room → block end (deeper end room) a (statement_tokens s ++ rest) ≡ Ok (bare_statement s, rest)
+  RereadsBlock a s = (room : ℕ) (rest : List Token) → length (statement_tokens s) ≤ room → block end (deeper end room) a (statement_tokens s ++ rest) ≡ Ok (placeless_statement s, rest)
 
   pub block_again : (p : Place) (a : Around) (ss : Statements) → RereadsStatements end (inside a) ss → RereadsBlock a (Block p ss)
   unfolding expression_tokens block expect
@@ -248,4 +248,4 @@ module _ (end : Place) where
       let ts = declarations_tokens ds ++ behind in
       let size2 = length-append (declarations_tokens ds) behind in
       let list : row (declared_turn end (deeper end room) Plain) ts ≡ Ok (declared_list ds, behind) = again room (length ts) Plain behind (omega (arith, size)) (omega (arith, size2)) some (ends_semicolon (deeper end (room - 1)) Plain rest) in
-      rw (append_assoc (declarations_tokens ds) (sign_token sign.Semicolon ∷ []) rest, list) (ap (λ (x : Declarations). Ok (Var nowhere x, rest)) (declarations_bare ds))
+      rw (append_assoc (declarations_tokens ds) (sign_token sign.Semicolon ∷ []) rest, list) (ap (λ (x : Declarations). Ok (Var nowhere x, rest)) (declarations_placeless ds))

@@ -19,9 +19,9 @@ use Rattle.js_grammar.specs.Operators.{next_postfix, next_binary, at_level, next
 use Rattle.js_grammar.specs.Expressions.{Deeper, a_suffix, primary, an_operand, chain, chained, level, conditional, conditional_by, assignment}
 use Rattle.js_grammar.specs.Statements.{deeper}
 use Rattle.js_grammar.specs.Printing.{nowhere, sign_token, binary_token, assign_token, in_round, expression_tokens, operands_tokens}
-use Rattle.js_grammar.specs.Bare.{bare_expression, bare_operands}
+use Rattle.js_grammar.specs.Placeless.{placeless_expression, placeless_operands}
 use Rattle.law_readable.specs.Readable.{IsExpression, AreOperands, has_operand}
-use Rattle.law_rereading.proofs.Lists.{operand_list, operands_bare, is_target_bare}
+use Rattle.law_rereading.proofs.Lists.{operand_list, operands_placeless, is_target_placeless}
 use Rattle.law_rereading.proofs.RereadParts.{row_more, row_end, stops_parenthesis, stops_colon, level_next, value_of_level, closed, brackets_at}
 use Rattle.law_rereading.proofs.RereadExpressions.{Rereads, begins_nowhere, value_again, level_again}
 
@@ -263,18 +263,18 @@ module _ (end : Place) where
       let more = operands_tokens os ++ closed end rest in
       let ts = expression_tokens e ++ more in
       let here : at_level k (next_binary Plain (binary_token op ∷ ts)) ≡ Some op = rw (binary_here op ts) (same_level k op is) in
-      let value : next ts ≡ Ok (bare_expression e, more) = level_again end e room k Plain more ex again (omega (arith, size)) (suffix_behind d os rest) (postfix_behind os rest) (λ j less. lower_behind j k os rest less are) in
-      rw (append_assoc (expression_tokens e) (operands_tokens os) (closed end rest)) (row_more (an_operand end Plain k next) (suc n) (binary_token op ∷ ts) more (closed end rest) (record { place = nowhere; op = op; value = bare_expression e }) (operand_list os) (operand_reads Plain k next op ts more (bare_expression e) here value (operator_nowhere op ts)) (others room n rest (omega (arith, size)) (omega (arith, size))))
+      let value : next ts ≡ Ok (placeless_expression e, more) = level_again end e room k Plain more ex again (omega (arith, size)) (suffix_behind d os rest) (postfix_behind os rest) (λ j less. lower_behind j k os rest less are) in
+      rw (append_assoc (expression_tokens e) (operands_tokens os) (closed end rest)) (row_more (an_operand end Plain k next) (suc n) (binary_token op ∷ ts) more (closed end rest) (record { place = nowhere; op = op; value = placeless_expression e }) (operand_list os) (operand_reads Plain k next op ts more (placeless_expression e) here value (operator_nowhere op ts)) (others room n rest (omega (arith, size)) (omega (arith, size))))
 
   level_chain : (d : Deeper) (k : ℕ) (ts more rest : List Token) (e : ExpressionTree) (os : List Operand) → level end d Plain k ts ≡ Ok (e, more) → row (an_operand end Plain k (level end d Plain k)) more ≡ Ok (os, rest) → level end d Plain (suc k) ts ≡ Ok (chained (place_at end ts) e os, rest)
   unfolding level chain
   level_chain d k ts more rest e os l r = rw (l, r) refl
 
-  chained_bare : (e : ExpressionTree) (os : Operands) → has_operand os ≡ true → chained nowhere (bare_expression e) (operand_list os) ≡ Chain nowhere (bare_expression e) (bare_operands os)
-  chained_bare e no_operand h = cc
-  chained_bare e (operand_more p op v os) h = ap (λ (x : Operands). Chain nowhere (bare_expression e) (operand_more nowhere op (bare_expression v) x)) (operands_bare os)
+  chained_placeless : (e : ExpressionTree) (os : Operands) → has_operand os ≡ true → chained nowhere (placeless_expression e) (operand_list os) ≡ Chain nowhere (placeless_expression e) (placeless_operands os)
+  chained_placeless e no_operand h = cc
+  chained_placeless e (operand_more p op v os) h = ap (λ (x : Operands). Chain nowhere (placeless_expression e) (operand_more nowhere op (placeless_expression v) x)) (operands_placeless os)
 
-  pub chain_node : (e : ExpressionTree) (os : Operands) (k room : ℕ) (rest : List Token) → k < 10 → has_operand os ≡ true → AreOperands k os → IsExpression e → Rereads end e → RereadsOperands k os → length (in_round (expression_tokens e ++ operands_tokens os)) ≤ room → primary end (deeper end room) (in_round (expression_tokens e ++ operands_tokens os) ++ rest) ≡ Ok (Chain nowhere (bare_expression e) (bare_operands os), rest)
+  pub chain_node : (e : ExpressionTree) (os : Operands) (k room : ℕ) (rest : List Token) → k < 10 → has_operand os ≡ true → AreOperands k os → IsExpression e → Rereads end e → RereadsOperands k os → length (in_round (expression_tokens e ++ operands_tokens os)) ≤ room → primary end (deeper end room) (in_round (expression_tokens e ++ operands_tokens os) ++ rest) ≡ Ok (Chain nowhere (placeless_expression e) (placeless_operands os), rest)
   chain_node e os k room rest less has are is again others fits =
       let size = length-append (expression_tokens e) (operands_tokens os) in
       let size2 = length-append (expression_tokens e ++ operands_tokens os) (sign_token sign.RightParenthesis ∷ []) in
@@ -282,13 +282,13 @@ module _ (end : Place) where
       let more = operands_tokens os ++ closed end rest in
       let size3 = length-append (operands_tokens os) (closed end rest) in
       let ts = expression_tokens e ++ more in
-      let first : level end d Plain k ts ≡ Ok (bare_expression e, more) = level_again end e (room - 1) k Plain more is again (omega (arith, size, size2)) (suffix_behind d os rest) (postfix_behind os rest) (λ j h. lower_behind j k os rest h are) in
+      let first : level end d Plain k ts ≡ Ok (placeless_expression e, more) = level_again end e (room - 1) k Plain more is again (omega (arith, size, size2)) (suffix_behind d os rest) (postfix_behind os rest) (λ j h. lower_behind j k os rest h are) in
       let list : row (an_operand end Plain k (level end d Plain k)) more ≡ Ok (operand_list os, closed end rest) = others (room - 1) (length more) rest (omega (arith, size, size2)) (omega (arith, size3)) in
-      let tree : chained (place_at end ts) (bare_expression e) (operand_list os) ≡ Chain nowhere (bare_expression e) (bare_operands os) = rw (begins_nowhere end e more) (chained_bare e os has) in
-      let whole : level end d Plain (suc k) ts ≡ Ok (Chain nowhere (bare_expression e) (bare_operands os), closed end rest) = level_chain d k ts more (closed end rest) (bare_expression e) (operand_list os) first list ∙ ap (λ (x : ExpressionTree). Ok (x, closed end rest)) tree in
+      let tree : chained (place_at end ts) (placeless_expression e) (operand_list os) ≡ Chain nowhere (placeless_expression e) (placeless_operands os) = rw (begins_nowhere end e more) (chained_placeless e os has) in
+      let whole : level end d Plain (suc k) ts ≡ Ok (Chain nowhere (placeless_expression e) (placeless_operands os), closed end rest) = level_chain d k ts more (closed end rest) (placeless_expression e) (operand_list os) first list ∙ ap (λ (x : ExpressionTree). Ok (x, closed end rest)) tree in
       let stops = stops_parenthesis end d Plain rest in
-      brackets_at end room (expression_tokens e ++ operands_tokens os) rest (Chain nowhere (bare_expression e) (bare_operands os)) (omega arith)
-      (rw (append_assoc (expression_tokens e) (operands_tokens os) (closed end rest)) (value_of_level end d Plain ts (closed end rest) (Chain nowhere (bare_expression e) (bare_operands os)) (level_ten d k ts (closed end rest) (Chain nowhere (bare_expression e) (bare_operands os)) less whole stops.binary) stops))
+      brackets_at end room (expression_tokens e ++ operands_tokens os) rest (Chain nowhere (placeless_expression e) (placeless_operands os)) (omega arith)
+      (rw (append_assoc (expression_tokens e) (operands_tokens os) (closed end rest)) (value_of_level end d Plain ts (closed end rest) (Chain nowhere (placeless_expression e) (placeless_operands os)) (level_ten d k ts (closed end rest) (Chain nowhere (placeless_expression e) (placeless_operands os)) less whole stops.binary) stops))
 
   -- ---- `? :` and assignment
 
@@ -296,7 +296,7 @@ module _ (end : Place) where
   unfolding assignment conditional expect
   conditional_reads d ts us vs rest c a b l x y = rw (l, x, y) refl
 
-  pub conditional_node : (c a b : ExpressionTree) (room : ℕ) (rest : List Token) → IsExpression c → IsExpression a → IsExpression b → Rereads end c → Rereads end a → Rereads end b → length (in_round (expression_tokens c ++ sign_token sign.Question ∷ (expression_tokens a ++ sign_token sign.Colon ∷ expression_tokens b))) ≤ room → primary end (deeper end room) (in_round (expression_tokens c ++ sign_token sign.Question ∷ (expression_tokens a ++ sign_token sign.Colon ∷ expression_tokens b)) ++ rest) ≡ Ok (Conditional nowhere (bare_expression c) (bare_expression a) (bare_expression b), rest)
+  pub conditional_node : (c a b : ExpressionTree) (room : ℕ) (rest : List Token) → IsExpression c → IsExpression a → IsExpression b → Rereads end c → Rereads end a → Rereads end b → length (in_round (expression_tokens c ++ sign_token sign.Question ∷ (expression_tokens a ++ sign_token sign.Colon ∷ expression_tokens b))) ≤ room → primary end (deeper end room) (in_round (expression_tokens c ++ sign_token sign.Question ∷ (expression_tokens a ++ sign_token sign.Colon ∷ expression_tokens b)) ++ rest) ≡ Ok (Conditional nowhere (placeless_expression c) (placeless_expression a) (placeless_expression b), rest)
   unfolding a_suffix
   conditional_node c a b room rest is_c is_a is_b again_c again_a again_b fits =
       let tail = sign_token sign.Colon ∷ expression_tokens b in
@@ -308,11 +308,11 @@ module _ (end : Place) where
       let vs = expression_tokens b ++ closed end rest in
       let us = expression_tokens a ++ sign_token sign.Colon ∷ vs in
       let ts = expression_tokens c ++ sign_token sign.Question ∷ us in
-      let first : level end d Plain 10 ts ≡ Ok (bare_expression c, sign_token sign.Question ∷ us) = level_again end c (room - 1) 10 Plain (sign_token sign.Question ∷ us) is_c again_c (omega (arith, size2, size3)) refl refl (λ j h. refl) in
+      let first : level end d Plain 10 ts ≡ Ok (placeless_expression c, sign_token sign.Question ∷ us) = level_again end c (room - 1) 10 Plain (sign_token sign.Question ∷ us) is_c again_c (omega (arith, size2, size3)) refl refl (λ j h. refl) in
       let second = value_again end a (room - 1) Plain (sign_token sign.Colon ∷ vs) is_a again_a (omega (arith, size, size2, size3)) (stops_colon end (deeper end (room - 1 - 1)) Plain vs) in
       let third = value_again end b (room - 1) Plain (closed end rest) is_b again_b (omega (arith, size, size2, size3)) (stops_parenthesis end (deeper end (room - 1 - 1)) Plain rest) in
-      let read : assignment end d Plain ts ≡ Ok (Conditional nowhere (bare_expression c) (bare_expression a) (bare_expression b), closed end rest) = conditional_reads d ts us vs rest (bare_expression c) (bare_expression a) (bare_expression b) first second third ∙ ap (λ (p : Place). Ok (Conditional p (bare_expression c) (bare_expression a) (bare_expression b), closed end rest)) (begins_nowhere end c (sign_token sign.Question ∷ us)) in
-      brackets_at end room (expression_tokens c ++ middle) rest (Conditional nowhere (bare_expression c) (bare_expression a) (bare_expression b)) (omega arith)
+      let read : assignment end d Plain ts ≡ Ok (Conditional nowhere (placeless_expression c) (placeless_expression a) (placeless_expression b), closed end rest) = conditional_reads d ts us vs rest (placeless_expression c) (placeless_expression a) (placeless_expression b) first second third ∙ ap (λ (p : Place). Ok (Conditional p (placeless_expression c) (placeless_expression a) (placeless_expression b), closed end rest)) (begins_nowhere end c (sign_token sign.Question ∷ us)) in
+      brackets_at end room (expression_tokens c ++ middle) rest (Conditional nowhere (placeless_expression c) (placeless_expression a) (placeless_expression b)) (omega arith)
       (rw (append_assoc (expression_tokens c) middle (closed end rest), append_assoc (expression_tokens a) tail (closed end rest)) read)
 
   assigned_reads : (d : Deeper) (op : AssignOp) (ts us rest : List Token) (e v : ExpressionTree) → level end d Plain 10 ts ≡ Ok (e, assign_token op ∷ us) → is_target e ≡ true → d.value Plain us ≡ Ok (v, rest) → assignment end d Plain ts ≡ Ok (Assign (place_at end (assign_token op ∷ us)) e op v, rest)
@@ -333,7 +333,7 @@ module _ (end : Place) where
   assign_nowhere assign.BitOr ts = refl
   assign_nowhere assign.BitXor ts = refl
 
-  pub assign_node : (e : ExpressionTree) (op : AssignOp) (v : ExpressionTree) (room : ℕ) (rest : List Token) → is_target e ≡ true → IsExpression e → IsExpression v → Rereads end e → Rereads end v → length (in_round (expression_tokens e ++ assign_token op ∷ expression_tokens v)) ≤ room → primary end (deeper end room) (in_round (expression_tokens e ++ assign_token op ∷ expression_tokens v) ++ rest) ≡ Ok (Assign nowhere (bare_expression e) op (bare_expression v), rest)
+  pub assign_node : (e : ExpressionTree) (op : AssignOp) (v : ExpressionTree) (room : ℕ) (rest : List Token) → is_target e ≡ true → IsExpression e → IsExpression v → Rereads end e → Rereads end v → length (in_round (expression_tokens e ++ assign_token op ∷ expression_tokens v)) ≤ room → primary end (deeper end room) (in_round (expression_tokens e ++ assign_token op ∷ expression_tokens v) ++ rest) ≡ Ok (Assign nowhere (placeless_expression e) op (placeless_expression v), rest)
   assign_node e op v room rest target is_e is_v again_e again_v fits =
       let tail = assign_token op ∷ expression_tokens v in
       let size = length-append (expression_tokens e) tail in
@@ -341,8 +341,8 @@ module _ (end : Place) where
       let d = deeper end (room - 1) in
       let us = expression_tokens v ++ closed end rest in
       let ts = expression_tokens e ++ assign_token op ∷ us in
-      let first : level end d Plain 10 ts ≡ Ok (bare_expression e, assign_token op ∷ us) = level_again end e (room - 1) 10 Plain (assign_token op ∷ us) is_e again_e (omega (arith, size, size2)) (no_suffix_at_assign end d op us) (no_postfix_at_assign op us) (λ j h. rw (no_binary_at_assign op us) refl) in
+      let first : level end d Plain 10 ts ≡ Ok (placeless_expression e, assign_token op ∷ us) = level_again end e (room - 1) 10 Plain (assign_token op ∷ us) is_e again_e (omega (arith, size, size2)) (no_suffix_at_assign end d op us) (no_postfix_at_assign op us) (λ j h. rw (no_binary_at_assign op us) refl) in
       let value = value_again end v (room - 1) Plain (closed end rest) is_v again_v (omega (arith, size, size2)) (stops_parenthesis end (deeper end (room - 1 - 1)) Plain rest) in
-      let read : assignment end d Plain ts ≡ Ok (Assign nowhere (bare_expression e) op (bare_expression v), closed end rest) = assigned_reads d op ts us (closed end rest) (bare_expression e) (bare_expression v) first (is_target_bare e target) value ∙ ap (λ (p : Place). Ok (Assign p (bare_expression e) op (bare_expression v), closed end rest)) (assign_nowhere op us) in
-      brackets_at end room (expression_tokens e ++ tail) rest (Assign nowhere (bare_expression e) op (bare_expression v)) (omega arith)
+      let read : assignment end d Plain ts ≡ Ok (Assign nowhere (placeless_expression e) op (placeless_expression v), closed end rest) = assigned_reads d op ts us (closed end rest) (placeless_expression e) (placeless_expression v) first (is_target_placeless e target) value ∙ ap (λ (p : Place). Ok (Assign p (placeless_expression e) op (placeless_expression v), closed end rest)) (assign_nowhere op us) in
+      brackets_at end room (expression_tokens e ++ tail) rest (Assign nowhere (placeless_expression e) op (placeless_expression v)) (omega arith)
       (rw (append_assoc (expression_tokens e) tail (closed end rest)) read)

@@ -7,14 +7,14 @@ use Rattle.js_tree.specs.declared.bound.BoundName.{BoundName}
 use Rattle.js_tree.specs.declared.operators.UpdateForm.TheVariants.{Prefix, Postfix}
 use Rattle.js_tree.specs.Tree.{ExpressionTree, Name, Update, FunctionTree, a_function, StatementTree, Evaluate, If, DeclareNumbered, Statements, no_statement, a_statement, no_branch, a_branch}
 use Rattle.js_grammar.specs.declared.turn.Turn.TheVariants.{More, Last, End}
-use Rattle.js_grammar.specs.declared.keyword.Keyword.{Keyword}
-use Rattle.js_grammar.specs.declared.keyword.Keyword.TheVariants as word
+use Rattle.js_tree.specs.declared.keyword.Keyword.{Keyword}
+use Rattle.js_tree.specs.declared.keyword.Keyword.TheVariants as word
 use Rattle.js_grammar.specs.declared.around.Around.{Around}
 use Rattle.js_grammar.specs.Readers.{row_of, row, next_keyword, expect, name, parameters, a_parameter}
 use Rattle.js_grammar.specs.Expressions.{a_statement as statement_turn, closes, in_function, function_from}
 use Rattle.js_grammar.specs.Statements.{deeper, statement, block}
 use Rattle.js_grammar.specs.Printing.{sign_token, word_token, in_round, in_braces, more_names, parameters_tokens, expression_tokens, function_tokens, statement_tokens, statements_tokens}
-use Rattle.js_grammar.specs.Bare.{bare_statement}
+use Rattle.js_grammar.specs.Placeless.{placeless_statement}
 use Rattle.law_readable.specs.Readable.{IsName, AreNames, IsExpression, IsStatement, AreStatements, ends_open, is_if}
 use Rattle.law_rereading.proofs.Lists.{statement_list, function_record}
 use Rattle.law_rereading.proofs.RereadParts.{row_more, row_last, row_end, closed}
@@ -108,7 +108,7 @@ free_closed false rest h k = k
 module _ (end : Place) where
   -- a statement is read again, whatever follows it but what would go on with it
   abbrev pub RereadsStatement : Around → StatementTree → Type 0
-  RereadsStatement a s = (room : ℕ) (rest : List Token) → length (statement_tokens s) ≤ room → IsFree (ends_open s) rest → statement end (deeper end room) a (statement_tokens s ++ rest) ≡ Ok (bare_statement s, rest)
+  RereadsStatement a s = (room : ℕ) (rest : List Token) → length (statement_tokens s) ≤ room → IsFree (ends_open s) rest → statement end (deeper end room) a (statement_tokens s ++ rest) ≡ Ok (placeless_statement s, rest)
 
   -- ---- less room for nesting
 
@@ -124,7 +124,7 @@ module _ (end : Place) where
       let one_more : room ≡ suc (room - 1) = omega arith in
       ap (λ n. (deeper end n).block a ts) one_more
 
-  pub nested_again : (a : Around) (s : StatementTree) (room : ℕ) (rest : List Token) → RereadsStatement a s → length (statement_tokens s) < room → IsFree (ends_open s) rest → (deeper end room).statement a (statement_tokens s ++ rest) ≡ Ok (bare_statement s, rest)
+  pub nested_again : (a : Around) (s : StatementTree) (room : ℕ) (rest : List Token) → RereadsStatement a s → length (statement_tokens s) < room → IsFree (ends_open s) rest → (deeper end room).statement a (statement_tokens s ++ rest) ≡ Ok (placeless_statement s, rest)
   nested_again a s room rest again fits free = statement_at room a (statement_tokens s ++ rest) (omega arith) ∙ again (room - 1) rest (omega arith) free
 
   -- ---- statements in a row
@@ -157,8 +157,8 @@ module _ (end : Place) where
       let size = length-append (statement_tokens s) (statements_tokens ss) in
       let more = statements_tokens ss ++ rest in
       let free = free_always (ends_open s) more (no_part_behind a ss rest are e) in
-      let turn : statement_turn (deeper end room) a (statement_tokens s ++ more) ≡ Ok (More (bare_statement s), more) = rw (opens_statement a s more is, nested_again a s room more again (omega (arith, size)) free) refl in
-      rw (append_assoc (statement_tokens s) (statements_tokens ss) rest) (row_more (statement_turn (deeper end room) a) (suc n) (statement_tokens s ++ more) more rest (bare_statement s) (statement_list ss) turn (others room n rest (omega (arith, size)) (omega (arith, size, statement_some a s is)) c e))
+      let turn : statement_turn (deeper end room) a (statement_tokens s ++ more) ≡ Ok (More (placeless_statement s), more) = rw (opens_statement a s more is, nested_again a s room more again (omega (arith, size)) free) refl in
+      rw (append_assoc (statement_tokens s) (statements_tokens ss) rest) (row_more (statement_turn (deeper end room) a) (suc n) (statement_tokens s ++ more) more rest (placeless_statement s) (statement_list ss) turn (others room n rest (omega (arith, size)) (omega (arith, size, statement_some a s is)) c e))
 
   -- ---- functions
 

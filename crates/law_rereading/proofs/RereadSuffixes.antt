@@ -6,7 +6,7 @@ use Rattle.js_tree.specs.declared.sign.Sign.TheVariants as sign
 use Rattle.js_tree.specs.declared.expression.Suffix.{Suffix}
 use Rattle.js_tree.specs.Tree.{ExpressionTree, Suffixed, New, Expressions, SuffixTree, a_member, an_index, a_call, Suffixes, no_suffix, a_suffix as suffix_more, expressions_of}
 use Rattle.js_grammar.specs.declared.turn.Turn.TheVariants.{More}
-use Rattle.js_grammar.specs.declared.keyword.Keyword.TheVariants as word
+use Rattle.js_tree.specs.declared.keyword.Keyword.TheVariants as word
 use Rattle.js_grammar.specs.declared.form.Form.TheVariants.{Plain}
 use Rattle.js_grammar.specs.declared.form.LeftSide.TheVariants as side
 use Rattle.js_grammar.specs.Readers.{row_of, row, expect, any_word, place_at}
@@ -14,9 +14,9 @@ use Rattle.js_grammar.specs.Operators.{next_unary, next_update, next_postfix}
 use Rattle.js_grammar.specs.Expressions.{Deeper, a_suffix, suffixed, suffixed_by, primary, postfix, unary, arguments, new_expression, new_arguments}
 use Rattle.js_grammar.specs.Statements.{deeper}
 use Rattle.js_grammar.specs.Printing.{nowhere, sign_token, keyword_token, in_round, expression_tokens, expressions_tokens, suffix_tokens, suffixes_tokens}
-use Rattle.js_grammar.specs.Bare.{bare_expression, bare_suffixes, bare_expressions}
+use Rattle.js_grammar.specs.Placeless.{placeless_expression, placeless_suffixes, placeless_expressions}
 use Rattle.law_readable.specs.Readable.{IsExpression, has_suffix}
-use Rattle.law_rereading.proofs.Lists.{expression_list, suffix_record, suffix_list, expressions_bare, suffixes_bare}
+use Rattle.law_rereading.proofs.Lists.{expression_list, suffix_record, suffix_list, expressions_placeless, suffixes_placeless}
 use Rattle.law_rereading.proofs.RereadParts.{row_more, row_end, stops_parenthesis, stops_bracket, suffixed_reads, unary_reads, value_of_unary, callee_at, closed, brackets_at}
 use Rattle.law_rereading.proofs.RereadExpressions.{Rereads, begins_nowhere, no_unary, no_update, expression_again}
 use Rattle.law_rereading.proofs.RereadRows.{RereadsArguments, arguments_again}
@@ -65,9 +65,9 @@ module _ (end : Place) where
       rw (append_assoc (suffix_tokens s) (suffixes_tokens ss) (closed end rest)) (row_more (a_suffix end (deeper end room) side.Call) (suc n) (suffix_tokens s ++ more) more (closed end rest) (suffix_record s) (suffix_list ss) (one room more (omega (arith, size))) (others room n rest (omega (arith, size)) (omega (arith, size, suffix_some s))))
 
   -- what stands behind the first part of a row of suffixes: a suffix, so no row of another kind
-  suffixed_bare : (e : ExpressionTree) (ss : Suffixes) → has_suffix ss ≡ true → suffixed_by nowhere (bare_expression e) (suffix_list ss) ≡ Suffixed nowhere (bare_expression e) (bare_suffixes ss)
-  suffixed_bare e no_suffix h = cc
-  suffixed_bare e (suffix_more s ss) h = ap (Suffixed nowhere (bare_expression e)) (suffixes_bare (suffix_more s ss))
+  suffixed_placeless : (e : ExpressionTree) (ss : Suffixes) → has_suffix ss ≡ true → suffixed_by nowhere (placeless_expression e) (suffix_list ss) ≡ Suffixed nowhere (placeless_expression e) (placeless_suffixes ss)
+  suffixed_placeless e no_suffix h = cc
+  suffixed_placeless e (suffix_more s ss) h = ap (Suffixed nowhere (placeless_expression e)) (suffixes_placeless (suffix_more s ss))
 
   suffixed_row : (d : Deeper) (ts more rest : List Token) (e : ExpressionTree) (ss : List Suffix) → primary end d ts ≡ Ok (e, more) → row (a_suffix end d side.Call) more ≡ Ok (ss, rest) → suffixed end d side.Call ts ≡ Ok (suffixed_by (place_at end ts) e ss, rest)
   unfolding suffixed
@@ -77,7 +77,7 @@ module _ (end : Place) where
   unfolding unary postfix
   unary_of_suffixed d ts rest e n u s q = rw (n, u, s, q) refl
 
-  pub suffixed_node : (e : ExpressionTree) (ss : Suffixes) (room : ℕ) (rest : List Token) → has_suffix ss ≡ true → IsExpression e → Rereads end e → RereadsSuffixes ss → length (in_round (expression_tokens e ++ suffixes_tokens ss)) ≤ room → primary end (deeper end room) (in_round (expression_tokens e ++ suffixes_tokens ss) ++ rest) ≡ Ok (Suffixed nowhere (bare_expression e) (bare_suffixes ss), rest)
+  pub suffixed_node : (e : ExpressionTree) (ss : Suffixes) (room : ℕ) (rest : List Token) → has_suffix ss ≡ true → IsExpression e → Rereads end e → RereadsSuffixes ss → length (in_round (expression_tokens e ++ suffixes_tokens ss)) ≤ room → primary end (deeper end room) (in_round (expression_tokens e ++ suffixes_tokens ss) ++ rest) ≡ Ok (Suffixed nowhere (placeless_expression e) (placeless_suffixes ss), rest)
   suffixed_node e ss room rest has is again others fits =
       let size = length-append (expression_tokens e) (suffixes_tokens ss) in
       let size2 = length-append (expression_tokens e ++ suffixes_tokens ss) (sign_token sign.RightParenthesis ∷ []) in
@@ -86,11 +86,11 @@ module _ (end : Place) where
       let size3 = length-append (suffixes_tokens ss) (closed end rest) in
       let ts = expression_tokens e ++ more in
       let list : row (a_suffix end d side.Call) more ≡ Ok (suffix_list ss, closed end rest) = others (room - 1) (length more) rest (omega (arith, size, size2)) (omega (arith, size3)) in
-      let tree : suffixed_by (place_at end ts) (bare_expression e) (suffix_list ss) ≡ Suffixed nowhere (bare_expression e) (bare_suffixes ss) = rw (begins_nowhere end e more) (suffixed_bare e ss has) in
-      let whole : suffixed end d side.Call ts ≡ Ok (Suffixed nowhere (bare_expression e) (bare_suffixes ss), closed end rest) = suffixed_row d ts more (closed end rest) (bare_expression e) (suffix_list ss) (again (room - 1) more (omega (arith, size, size2))) list ∙ ap (λ (x : ExpressionTree). Ok (x, closed end rest)) tree in
+      let tree : suffixed_by (place_at end ts) (placeless_expression e) (suffix_list ss) ≡ Suffixed nowhere (placeless_expression e) (placeless_suffixes ss) = rw (begins_nowhere end e more) (suffixed_placeless e ss has) in
+      let whole : suffixed end d side.Call ts ≡ Ok (Suffixed nowhere (placeless_expression e) (placeless_suffixes ss), closed end rest) = suffixed_row d ts more (closed end rest) (placeless_expression e) (suffix_list ss) (again (room - 1) more (omega (arith, size, size2))) list ∙ ap (λ (x : ExpressionTree). Ok (x, closed end rest)) tree in
       let stops = stops_parenthesis end d Plain rest in
-      brackets_at end room (expression_tokens e ++ suffixes_tokens ss) rest (Suffixed nowhere (bare_expression e) (bare_suffixes ss)) (omega arith)
-      (rw (append_assoc (expression_tokens e) (suffixes_tokens ss) (closed end rest)) (value_of_unary end d Plain ts (closed end rest) (Suffixed nowhere (bare_expression e) (bare_suffixes ss)) (unary_of_suffixed d ts (closed end rest) (Suffixed nowhere (bare_expression e) (bare_suffixes ss)) (no_unary e more is) (no_update e more) whole stops.postfix) stops))
+      brackets_at end room (expression_tokens e ++ suffixes_tokens ss) rest (Suffixed nowhere (placeless_expression e) (placeless_suffixes ss)) (omega arith)
+      (rw (append_assoc (expression_tokens e) (suffixes_tokens ss) (closed end rest)) (value_of_unary end d Plain ts (closed end rest) (Suffixed nowhere (placeless_expression e) (placeless_suffixes ss)) (unary_of_suffixed d ts (closed end rest) (Suffixed nowhere (placeless_expression e) (placeless_suffixes ss)) (no_unary e more is) (no_update e more) whole stops.postfix) stops))
 
   -- ---- `new`
 
@@ -98,7 +98,7 @@ module _ (end : Place) where
   unfolding primary new_expression new_arguments
   new_reads d es ts us rest e c a = rw (c, a) refl
 
-  pub new_node : (e : ExpressionTree) (es : Expressions) (room : ℕ) (rest : List Token) → Rereads end e → RereadsArguments end es → length (in_round (keyword_token word.New ∷ (expression_tokens e ++ in_round (expressions_tokens es)))) ≤ room → primary end (deeper end room) (in_round (keyword_token word.New ∷ (expression_tokens e ++ in_round (expressions_tokens es))) ++ rest) ≡ Ok (New nowhere (bare_expression e) (bare_expressions es), rest)
+  pub new_node : (e : ExpressionTree) (es : Expressions) (room : ℕ) (rest : List Token) → Rereads end e → RereadsArguments end es → length (in_round (keyword_token word.New ∷ (expression_tokens e ++ in_round (expressions_tokens es)))) ≤ room → primary end (deeper end room) (in_round (keyword_token word.New ∷ (expression_tokens e ++ in_round (expressions_tokens es))) ++ rest) ≡ Ok (New nowhere (placeless_expression e) (placeless_expressions es), rest)
   unfolding a_suffix
   new_node e es room rest again others fits =
       let size = length-append (expressions_tokens es) (sign_token sign.RightParenthesis ∷ []) in
@@ -108,9 +108,9 @@ module _ (end : Place) where
       let us = expressions_tokens es ++ closed end (closed end rest) in
       let behind = sign_token sign.LeftParenthesis ∷ us in
       let ts = expression_tokens e ++ behind in
-      let callee : d.callee ts ≡ Ok (bare_expression e, behind) = callee_at end (room - 1) ts (omega (arith, size, size2, size3)) ∙ suffixed_reads end (deeper end (room - 1 - 1)) side.Member ts behind (bare_expression e) (again (room - 1 - 1) behind (omega (arith, size, size2, size3))) refl in
+      let callee : d.callee ts ≡ Ok (placeless_expression e, behind) = callee_at end (room - 1) ts (omega (arith, size, size2, size3)) ∙ suffixed_reads end (deeper end (room - 1 - 1)) side.Member ts behind (placeless_expression e) (again (room - 1 - 1) behind (omega (arith, size, size2, size3))) refl in
       let given = arguments_again end es (room - 1) (closed end rest) others (omega (arith, size, size2, size3)) in
-      let read : primary end d (keyword_token word.New ∷ ts) ≡ Ok (New nowhere (bare_expression e) (bare_expressions es), closed end rest) = new_reads d es ts us (closed end rest) (bare_expression e) callee given ∙ ap (λ (x : Expressions). Ok (New nowhere (bare_expression e) x, closed end rest)) (expressions_bare es) in
+      let read : primary end d (keyword_token word.New ∷ ts) ≡ Ok (New nowhere (placeless_expression e) (placeless_expressions es), closed end rest) = new_reads d es ts us (closed end rest) (placeless_expression e) callee given ∙ ap (λ (x : Expressions). Ok (New nowhere (placeless_expression e) x, closed end rest)) (expressions_placeless es) in
       let stops = stops_parenthesis end d Plain rest in
-      brackets_at end room (keyword_token word.New ∷ (expression_tokens e ++ in_round (expressions_tokens es))) rest (New nowhere (bare_expression e) (bare_expressions es)) (omega arith)
-      (rw (append_assoc (expression_tokens e) (in_round (expressions_tokens es)) (closed end rest), append_assoc (expressions_tokens es) (sign_token sign.RightParenthesis ∷ []) (closed end rest)) (value_of_unary end d Plain (keyword_token word.New ∷ ts) (closed end rest) (New nowhere (bare_expression e) (bare_expressions es)) (unary_reads end d (keyword_token word.New ∷ ts) (closed end rest) (New nowhere (bare_expression e) (bare_expressions es)) refl refl read stops.suffix stops.postfix) stops))
+      brackets_at end room (keyword_token word.New ∷ (expression_tokens e ++ in_round (expressions_tokens es))) rest (New nowhere (placeless_expression e) (placeless_expressions es)) (omega arith)
+      (rw (append_assoc (expression_tokens e) (in_round (expressions_tokens es)) (closed end rest), append_assoc (expressions_tokens es) (sign_token sign.RightParenthesis ∷ []) (closed end rest)) (value_of_unary end d Plain (keyword_token word.New ∷ ts) (closed end rest) (New nowhere (placeless_expression e) (placeless_expressions es)) (unary_reads end d (keyword_token word.New ∷ ts) (closed end rest) (New nowhere (placeless_expression e) (placeless_expressions es)) refl refl read stops.suffix stops.postfix) stops))

@@ -13,11 +13,11 @@ use Rattle.js_grammar.specs.Readers.{row_of}
 use Rattle.js_grammar.specs.Expressions.{primary, a_statement as statement_turn, in_function}
 use Rattle.js_grammar.specs.Statements.{deeper, at_top, script_within, script_without_limit, inside, in_loop, in_switch}
 use Rattle.js_grammar.specs.Printing.{more_declared, expression_tokens, statement_tokens, statements_tokens}
-use Rattle.js_grammar.specs.Bare.{bare_function, bare_statement}
+use Rattle.js_grammar.specs.Placeless.{placeless_function, placeless_statement}
 use Rattle.law_readable.specs.Readable.{IsOwnName, IsExpression, IsOptional, AreExpressions, AreItems, AreProperties, IsSuffix, AreSuffixes, AreOperands, IsFunction, IsAnonymous, IsStatement, AreStatements, IsFinally, AreDeclared, AreBranches, AreClauses, IsCatch, has_declared, is_block}
 use Rattle.law_rereading.specs.Laws.{PrintedTokensAreReadAgain, ScriptsReadAreReadAgain}
 use Rattle.law_readable.proofs.ReadScripts.{scripts_law as readable_law}
-use Rattle.law_rereading.proofs.Lists.{function_record, statement_list, statements_bare}
+use Rattle.law_rereading.proofs.Lists.{function_record, statement_list, statements_placeless}
 use Rattle.law_rereading.proofs.RereadExpressions.{Rereads, name_again, unary_node, prefix_node, postfix_node}
 use Rattle.law_rereading.proofs.RereadRows.{RereadsArguments, RereadsParts, RereadsItems, RereadsProperties, no_arguments, no_parts, arguments_row, parts_row, comma_node, no_items, hole_row, item_row, array_node, no_properties, property_row, object_node}
 use Rattle.law_rereading.proofs.RereadOperators.{RereadsOperands, no_operands, operand_row, chain_node, conditional_node, assign_node}
@@ -27,8 +27,8 @@ use Rattle.law_rereading.proofs.RereadKinds.{own_of, RereadsOptional, function_n
 use Rattle.law_rereading.proofs.RereadLoops.{for_nothing, for_expression, for_declared, in_value, in_declared}
 use Rattle.law_rereading.proofs.RereadCompounds.{RereadsBranches, no_branches, branch_row, if_node, if_else_node, following, RereadsCases, RereadsDefault, no_cases, default_ends, case_row, switch_node, RereadsCatch, RereadsFinally, try_node}
 
-function_is_bare : (f : FunctionTree) → IsFunction f → function_of (function_record f) ≡ bare_function f
-function_is_bare (a_function own xs names body) is = cc (statements_bare body, is.2)
+function_is_placeless : (f : FunctionTree) → IsFunction f → function_of (function_record f) ≡ placeless_function f
+function_is_placeless (a_function own xs names body) is = cc (statements_placeless body, is.2)
 
 own_is : (f : FunctionTree) → IsFunction f → IsOwnName (own_of f)
 own_is (a_function own xs names body) is = is.0
@@ -59,7 +59,7 @@ module _ (end : Place) where
     again (Name p x) is room rest fits = name_again end x room rest is
     again (Array p all) is room rest fits = array_node end all room rest (items_again all is) fits
     again (Object p all) is room rest fits = object_node end all room rest (properties_again all is) fits
-    again (Function p f) is room rest fits = function_node end f room rest (own_is f is) (function_is_bare f is) (function_reread f is) fits
+    again (Function p f) is room rest fits = function_node end f room rest (own_is f is) (function_is_placeless f is) (function_reread f is) fits
     again (Numbered p n) is room rest fits = absurd is
     again (Suffixed p e all) is room rest fits = suffixed_node end e all room rest is.1 is.0 (again e is.0) (suffixes_again all is.2) fits
     again (New p e all) is room rest fits = new_node end e all room rest (again e is.0) (arguments_reread all is.1) fits
@@ -130,7 +130,7 @@ module _ (end : Place) where
     statement_again a (Throw p e) is = throw_node end p a e is (again e is)
     statement_again a (Switch p e cs) is = switch_node end p a e cs is.0 (again e is.0) (cases_again (in_switch a) true cs is.1) (default_again (in_switch a) true cs is.1)
     statement_again a (Try p s c f) is = try_node end p a s c f is.1 (block_reread (inside a) s is.0 is.2) (catch_again a c is.3) (finally_again a f is.4)
-    statement_again a (Declare p x f) is = declare_node end p a x f is.0 is.1 (anonymous_is f is.2) (function_is_bare f is.3) (function_reread f is.3)
+    statement_again a (Declare p x f) is = declare_node end p a x f is.0 is.1 (anonymous_is f is.2) (function_is_placeless f is.3) (function_reread f is.3)
     statement_again a (DeclareNumbered p x n) is = absurd is
 
     block_reread : (a : Around) (s : StatementTree) → is_block s ≡ true → IsStatement a s → RereadsBlock end a s
@@ -182,14 +182,14 @@ unfolding expression_tokens
 printed_all [] = refl
 printed_all (s ∷ ss) = ap (λ (ts : List Token). statement_tokens s ++ ts) (printed_all ss)
 
-bare_all : (body : List StatementTree) → statement_list (statements_of body) ≡ map bare_statement body
-bare_all [] = refl
-bare_all (s ∷ ss) = ap (λ (ts : List StatementTree). bare_statement s ∷ ts) (bare_all ss)
+placeless_all : (body : List StatementTree) → statement_list (statements_of body) ≡ map placeless_statement body
+placeless_all [] = refl
+placeless_all (s ∷ ss) = ap (λ (ts : List StatementTree). placeless_statement s ∷ ts) (placeless_all ss)
 
 pub printed_tokens_law : PrintedTokensAreReadAgain
 printed_tokens_law end body are =
     let again = script_again end (statements_of body) are in
-    subst (λ (ts : List Token). script_without_limit end ts ≡ Ok (map bare_statement body)) (printed_all body) (again ∙ ap Ok (bare_all body))
+    subst (λ (ts : List Token). script_without_limit end ts ≡ Ok (map placeless_statement body)) (printed_all body) (again ∙ ap Ok (placeless_all body))
 
 pub scripts_law : ScriptsReadAreReadAgain
 scripts_law end other room ts body is = printed_tokens_law other body (readable_law end room ts body is)

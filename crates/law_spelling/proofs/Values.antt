@@ -13,7 +13,7 @@ use Rattle.js_tree.specs.declared.operators.BinaryOp.TheVariants as binary
 use Rattle.js_tree.specs.declared.operators.AssignOp.{AssignOp}
 use Rattle.js_tree.specs.declared.operators.AssignOp.TheVariants as assign
 use Rattle.js_tree.specs.Tree.{ExpressionTree, Number, Characters, True, False, Null, This, Name, Array, Object, Function, Numbered, Suffixed, New, Update, Unary, Chain, Conditional, Assign, Comma}
-use Rattle.js_grammar.specs.declared.keyword.Keyword.TheVariants as word
+use Rattle.js_tree.specs.declared.keyword.Keyword.TheVariants as word
 use Rattle.js_grammar.specs.Tokens.{is_value_word, ends_value, is_dot}
 use Rattle.js_grammar.specs.Words.{keyword_of, keyword_spelling}
 use Rattle.js_grammar.specs.Printing.{printed, sign_token, word_token, keyword_token, unary_token, update_token, binary_token, assign_token, in_round, in_braces, own_name_tokens, expression_tokens, expressions_tokens, items_tokens, properties_tokens, suffixes_tokens, operands_tokens, function_tokens}

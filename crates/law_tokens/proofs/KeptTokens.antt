@@ -15,16 +15,16 @@ use Rattle.law_tokens.proofs.Keeping.{Keeps, done, kept, named, added, left_out}
 use Rattle.law_tokens.proofs.ReadScripts.{script_keeps}
 
 -- a name is bare as its text
-name_bare : (k : TokenKind) (x : List ℕ) → name_in k ≡ Some x → bare_kind k ≡ a_text x ∷ []
-name_bare (token.Word w) x h = let e : w ≡ x = cc in ap (λ y. a_text y ∷ []) e
-name_bare (token.Text w) x h = let e : w ≡ x = cc in ap (λ y. a_text y ∷ []) e
-name_bare (token.Number n) x h = let e : signed_decimal n ≡ x = cc in ap (λ y. a_text y ∷ []) e
-name_bare (token.Sign s) x h = cc
+name_placeless : (k : TokenKind) (x : List ℕ) → name_in k ≡ Some x → bare_kind k ≡ a_text x ∷ []
+name_placeless (token.Word w) x h = let e : w ≡ x = cc in ap (λ y. a_text y ∷ []) e
+name_placeless (token.Text w) x h = let e : w ≡ x = cc in ap (λ y. a_text y ∷ []) e
+name_placeless (token.Number n) x h = let e : signed_decimal n ≡ x = cc in ap (λ y. a_text y ∷ []) e
+name_placeless (token.Sign s) x h = cc
 
 keeps_bare : {out before rest : List Token} → Keeps out before rest → bare_tokens before ≡ bare_tokens out ++ bare_tokens rest
 keeps_bare (done ts) = refl
 keeps_bare {rest = rest} (kept k t out before r e h) = rw (e, keeps_bare h) (sym (append_assoc (bare_kind k) (bare_tokens out) (bare_tokens rest)))
-keeps_bare {rest = rest} (named x t out before r e h) = rw (name_bare t.kind x e, keeps_bare h) refl
+keeps_bare {rest = rest} (named x t out before r e h) = rw (name_placeless t.kind x e, keeps_bare h) refl
 keeps_bare {rest = rest} (added s out before r e h) = rw (e, keeps_bare h) refl
 keeps_bare {rest = rest} (left_out t out before r e h) = rw (e, keeps_bare h) refl
 

@@ -12,8 +12,8 @@ use Rattle.js_tree.specs.declared.expression.Function.{Function as FunctionRecor
 use Rattle.js_tree.specs.Tree.{ExpressionTree, Number, Characters, True, False, Null, This, Name, Array, Object, Function, New, a_function, expressions_of, items_of, statements_of}
 use Rattle.js_tree.specs.View.{properties_of, function_of}
 use Rattle.js_grammar.specs.declared.turn.Turn.TheVariants.{More, End}
-use Rattle.js_grammar.specs.declared.keyword.Keyword.{Keyword}
-use Rattle.js_grammar.specs.declared.keyword.Keyword.TheVariants as word
+use Rattle.js_tree.specs.declared.keyword.Keyword.{Keyword}
+use Rattle.js_tree.specs.declared.keyword.Keyword.TheVariants as word
 use Rattle.js_grammar.specs.declared.form.Form.{Form}
 use Rattle.js_grammar.specs.declared.form.Form.TheVariants.{Plain}
 use Rattle.js_grammar.specs.declared.around.Around.{Around}

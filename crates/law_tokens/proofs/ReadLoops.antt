@@ -13,15 +13,16 @@ use Rattle.js_tree.specs.Tree.{ExpressionTree, If, DoWhile, While, For, ForIn, S
 use Rattle.js_tree.specs.View.{declarations_of, branches_of}
 use Rattle.js_grammar.specs.declared.turn.Turn.{Turn}
 use Rattle.js_grammar.specs.declared.turn.Turn.TheVariants.{More, Last, End}
-use Rattle.js_grammar.specs.declared.keyword.Keyword.{Keyword}
-use Rattle.js_grammar.specs.declared.keyword.Keyword.TheVariants as word
+use Rattle.js_tree.specs.declared.keyword.Keyword.{Keyword}
+use Rattle.js_tree.specs.declared.keyword.Keyword.TheVariants as word
 use Rattle.js_grammar.specs.declared.form.Form.TheVariants.{NoIn}
 use Rattle.js_grammar.specs.declared.around.Around.{Around}
 use Rattle.js_grammar.specs.Reading.{Refusal}
 use Rattle.js_grammar.specs.Readers.{row_of, turned, rest_of, next_sign, next_keyword, is_sign, place_at}
 use Rattle.js_grammar.specs.Operators.{is_target}
 use Rattle.js_grammar.specs.Expressions.{Deeper}
-use Rattle.js_grammar.specs.Statements.{inside, in_loop, statement_or_none, before_in, semicolon_if, one_branch, branch_by, a_branch, otherwise_by, otherwise, if_statement, while_by, do_statement, while_statement, optional_by, optional_expression, for_from, for_in_from, for_var_by, for_var, for_value_by, for_value, for_word, for_by, for_statement}
+use Rattle.js_grammar.specs.Statements.{inside, in_loop, before_in, semicolon_if, one_branch, branch_by, a_branch, otherwise_by, otherwise, if_statement, while_by, do_statement, while_statement, optional_by, optional_expression, for_from, for_in_from, for_var_by, for_var, for_value_by, for_value, for_word, for_by, for_statement}
+use Rattle.js_tree.specs.Parts.{statement_or_none}
 use Rattle.js_grammar.specs.Printing.{word_token, keyword_token, in_round, else_if, more_branches, expression_tokens, optional_tokens, statement_tokens, otherwise_tokens, declarations_tokens, first_value_tokens, branches_tokens, start_tokens, target_tokens}
 use Rattle.law_tokens.specs.BareTokens.{bare_kind}
 use Rattle.law_tokens.proofs.Keeping.{Keeps, done, behind, and_skips, no_longer, with_sign, round, semicolon_behind, Gives, and_then, gives, refuses, by_test, Keeping}

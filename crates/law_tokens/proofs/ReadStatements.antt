@@ -10,14 +10,15 @@ use Rattle.js_tree.specs.declared.statement.Catch.{Catch}
 use Rattle.js_tree.specs.Tree.{ExpressionTree, StatementTree, Block, Evaluate, Var, Return, Throw, Switch, Try, Declare, absent, present, optional_of, statements_of}
 use Rattle.js_tree.specs.View.{function_of, declarations_of, clauses_of}
 use Rattle.js_grammar.specs.declared.turn.Turn.TheVariants.{More, End}
-use Rattle.js_grammar.specs.declared.keyword.Keyword.{Keyword}
-use Rattle.js_grammar.specs.declared.keyword.Keyword.TheVariants as word
+use Rattle.js_tree.specs.declared.keyword.Keyword.{Keyword}
+use Rattle.js_tree.specs.declared.keyword.Keyword.TheVariants as word
 use Rattle.js_grammar.specs.declared.form.Form.{Form}
 use Rattle.js_grammar.specs.declared.form.Form.TheVariants.{Plain}
 use Rattle.js_grammar.specs.declared.around.Around.{Around}
 use Rattle.js_grammar.specs.Readers.{row, rest_of, next_sign, next_keyword, place_at}
 use Rattle.js_grammar.specs.Expressions.{Deeper, a_statement}
-use Rattle.js_grammar.specs.Statements.{inside, in_switch, statement_or_none, has_part, catch_or_none, ends, begins_line, evaluated, block_from, block, first_value_by, first_value, a_declared, var_statement, alone, alone_if, returned_by, returned_if, return_statement, thrown_by, throw_statement, clause_from, case_by, a_case, default_by, clauses, switch_statement, catch_by, catch_part, finally_by, finally_part, tried, try_statement, declared_if, function_statement}
+use Rattle.js_grammar.specs.Statements.{inside, in_switch, has_part, ends, begins_line, evaluated, block_from, block, first_value_by, first_value, a_declared, var_statement, alone, alone_if, returned_by, returned_if, return_statement, thrown_by, throw_statement, clause_from, case_by, a_case, default_by, clauses, switch_statement, catch_by, catch_part, finally_by, finally_part, tried, try_statement, declared_if, function_statement}
+use Rattle.js_tree.specs.Parts.{statement_or_none, catch_or_none}
 use Rattle.js_grammar.specs.Printing.{sign_token, word_token, keyword_token, optional_tokens, statement_tokens, finally_tokens, first_value_tokens, test_tokens, catch_tokens}
 use Rattle.law_tokens.proofs.Keeping.{Keeps, done, behind, and_skips, round, semicolon_behind, Gives, and_then, gives, refuses, Keeping}
 use Rattle.law_tokens.proofs.Steps.{sign_taken, keyword_taken, expect_takes, expect_skips, name_keeps, semicolon_skips}

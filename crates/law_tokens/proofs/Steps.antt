@@ -8,7 +8,7 @@ use Rattle.js_tree.specs.declared.token.TokenKind.{TokenKind}
 use Rattle.js_tree.specs.declared.token.TokenKind.TheVariants as token
 use Rattle.js_tree.specs.declared.sign.Sign.{Sign}
 use Rattle.js_tree.specs.declared.sign.Sign.TheVariants as sign
-use Rattle.js_grammar.specs.declared.keyword.Keyword.{Keyword}
+use Rattle.js_tree.specs.declared.keyword.Keyword.{Keyword}
 use Rattle.js_grammar.specs.Words.{same, keyword_spelling, keywords, keyword_of}
 use Rattle.js_grammar.specs.Readers.{rest_of, sign_of, next_sign, keyword_in, next_keyword, is_sign, unbound, taken_if, expect, name, name_by, name_if, any_word, word_by, semicolon, semicolon_by}
 use Rattle.js_grammar.specs.Printing.{printed, sign_token, word_token, keyword_token}

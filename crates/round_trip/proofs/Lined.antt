@@ -11,7 +11,7 @@ use Rattle.js_grammar.specs.Readers.{row_of}
 use Rattle.js_grammar.specs.Expressions.{a_statement as statement_turn, closes}
 use Rattle.js_grammar.specs.Statements.{statement, deeper, at_top, script_within, script_without_limit}
 use Rattle.js_grammar.specs.Printing.{statement_tokens}
-use Rattle.js_grammar.specs.Bare.{bare_statement}
+use Rattle.js_grammar.specs.Placeless.{placeless_statement}
 use Rattle.law_readable.specs.Readable.{AreStatements, IsStatement, ends_open}
 use Rattle.law_rereading.proofs.RereadParts.{row_more, row_end}
 use Rattle.law_rereading.proofs.RereadStatements.{begins_part, free_always, opens_statement, no_part_statement, nested_again, statement_at}
@@ -69,7 +69,7 @@ module _ (end : Place) where
   -- ---- statements, a line for each
 
   abbrev Turns : ℕ → List Token → StatementTree → List Token → Type 0
-  Turns room ts s rest = statement_turn (deeper end room) at_top ts ≡ Ok (More (bare_statement s), rest)
+  Turns room ts s rest = statement_turn (deeper end room) at_top ts ≡ Ok (More (placeless_statement s), rest)
 
   turn_again : (room : ℕ) (s : StatementTree) (ss : List StatementTree) → IsStatement at_top s → AreStatements at_top (statements_of ss) → length (statement_tokens s) < room → Turns room (statement_tokens s ++ lines ss) s (lines ss)
   unfolding statement_turn
@@ -78,7 +78,7 @@ module _ (end : Place) where
       rw (opens_statement at_top s (lines ss) is, nested_again end at_top s room (lines ss) (statement_again end at_top s is) fits free) refl
 
   abbrev Rows : ℕ → ℕ → List Token → List StatementTree → Type 0
-  Rows room n ts ss = row_of (statement_turn (deeper end room) at_top) (suc n) ts ≡ Ok (map bare_statement ss, [])
+  Rows room n ts ss = row_of (statement_turn (deeper end room) at_top) (suc n) ts ≡ Ok (map placeless_statement ss, [])
 
   lines_again : (room n : ℕ) (ss : List StatementTree) → AreStatements at_top (statements_of ss) → length (lines ss) < room → length (lines ss) ≤ n → Rows room n (lines ss) ss
   unfolding statement_turn
@@ -89,7 +89,7 @@ module _ (end : Place) where
       let same = length_behind (statement_tokens s) in
       let some = statement_some s are.0 in
       let turn : Turns room (lines (s ∷ ss)) s (lines ss) = turn_behind room at_top (statement_tokens s) (lines ss) (omega arith) (opens_statement at_top s (lines ss) are.0) ∙ turn_again room s ss are.0 are.1 (omega (arith, size, same)) in
-      row_more (statement_turn (deeper end room) at_top) (suc n) (lines (s ∷ ss)) (lines ss) [] (bare_statement s) (map bare_statement ss) turn (lines_again room n ss are.1 (omega (arith, size)) (omega (arith, size, same, some)))
+      row_more (statement_turn (deeper end room) at_top) (suc n) (lines (s ∷ ss)) (lines ss) [] (placeless_statement s) (map placeless_statement ss) turn (lines_again room n ss are.1 (omega (arith, size)) (omega (arith, size, same, some)))
 
   lined_rows : (room n : ℕ) (body : List StatementTree) → AreStatements at_top (statements_of body) → length (lined body) < room → length (lined body) ≤ n → Rows room n (lined body) body
   unfolding statement_turn
@@ -98,10 +98,10 @@ module _ (end : Place) where
   lined_rows room (suc n) (s ∷ ss) are fits le =
       let size = length-append (statement_tokens s) (lines ss) in
       let some = statement_some s are.0 in
-      row_more (statement_turn (deeper end room) at_top) (suc n) (lined (s ∷ ss)) (lines ss) [] (bare_statement s) (map bare_statement ss) (turn_again room s ss are.0 are.1 (omega (arith, size))) (lines_again room n ss are.1 (omega (arith, size)) (omega (arith, size, some)))
+      row_more (statement_turn (deeper end room) at_top) (suc n) (lined (s ∷ ss)) (lines ss) [] (placeless_statement s) (map placeless_statement ss) (turn_again room s ss are.0 are.1 (omega (arith, size))) (lines_again room n ss are.1 (omega (arith, size)) (omega (arith, size, some)))
 
   -- a whole script, without a limit of nesting
-  pub lined_again : (body : List StatementTree) → AreStatements at_top (statements_of body) → script_without_limit end (lined body) ≡ Ok (map bare_statement body)
+  pub lined_again : (body : List StatementTree) → AreStatements at_top (statements_of body) → script_without_limit end (lined body) ≡ Ok (map placeless_statement body)
   unfolding script_within
   lined_again body are =
       let ts = lined body in

@@ -12,7 +12,7 @@ use Rattle.js_grammar.specs.Tokens.{tokens_of}
 use Rattle.js_grammar.specs.Statements.{at_top, script_within, script_of, script_without_limit}
 use Rattle.js_grammar.specs.Printing.{nowhere, statement_tokens}
 use Rattle.js_grammar.specs.Spelling.{printed_bytes}
-use Rattle.js_grammar.specs.Bare.{bare_statement}
+use Rattle.js_grammar.specs.Placeless.{placeless_statement}
 use Rattle.law_readable.specs.Readable.{AreStatements}
 use Rattle.law_readable.proofs.ReadScripts.{scripts_law as readable_law, texts_law}
 use Rattle.law_tokens.specs.BareTokens.{bare_kind, bare_tokens}
@@ -78,19 +78,19 @@ kept us ts body text lexed whole =
 -- ---- they are read back
 
 -- what reading gives, places put aside
-abbrev as_bare : Result (List StatementTree) Refusal → Result (List StatementTree) Refusal
-as_bare m = m >>= λ again. Ok (map bare_statement again)
+abbrev as_placeless : Result (List StatementTree) Refusal → Result (List StatementTree) Refusal
+as_placeless m = m >>= λ again. Ok (map placeless_statement again)
 
-aside_bare : (m : Result (List StatementTree) Refusal) (bodies : List StatementTree) → put_aside (map bare_statement) m ≡ Ok bodies → as_bare m ≡ Ok bodies
-aside_bare (Ok again) bodies e = e
-aside_bare (Err r) bodies e = cc
+aside_placeless : (m : Result (List StatementTree) Refusal) (bodies : List StatementTree) → put_aside (map placeless_statement) m ≡ Ok bodies → as_placeless m ≡ Ok bodies
+aside_placeless (Ok again) bodies e = e
+aside_placeless (Err r) bodies e = cc
 
 -- tokens that are those of a printed script, places put aside, are read as that script
-read_again : (body : List StatementTree) (ts : List Token) (end : Place) → AreStatements at_top (statements_of body) → placeless ts ≡ lined body → as_bare (script_without_limit end ts) ≡ Ok (map bare_statement body)
+read_again : (body : List StatementTree) (ts : List Token) (end : Place) → AreStatements at_top (statements_of body) → placeless ts ≡ lined body → as_placeless (script_without_limit end ts) ≡ Ok (map placeless_statement body)
 read_again body ts end are in_lines =
-    let bare : script_without_limit nowhere (placeless ts) ≡ Ok (map bare_statement body) = subst (λ (us : List Token). script_without_limit nowhere us ≡ Ok (map bare_statement body)) (sym in_lines) (lined_again nowhere body are) in
-    let same_room : script_within nowhere (2 * length ts + 2) (placeless ts) ≡ Ok (map bare_statement body) = subst (λ (n : ℕ). script_within nowhere (2 * n + 2) (placeless ts) ≡ Ok (map bare_statement body)) (length-map ts placeless_token) bare in
-    aside_bare (script_without_limit end ts) (map bare_statement body) (sym (places_aside end (2 * length ts + 2) ts) ∙ same_room)
+    let bare : script_without_limit nowhere (placeless ts) ≡ Ok (map placeless_statement body) = subst (λ (us : List Token). script_without_limit nowhere us ≡ Ok (map placeless_statement body)) (sym in_lines) (lined_again nowhere body are) in
+    let same_room : script_within nowhere (2 * length ts + 2) (placeless ts) ≡ Ok (map placeless_statement body) = subst (λ (n : ℕ). script_within nowhere (2 * n + 2) (placeless ts) ≡ Ok (map placeless_statement body)) (length-map ts placeless_token) bare in
+    aside_placeless (script_without_limit end ts) (map placeless_statement body) (sym (places_aside end (2 * length ts + 2) ts) ∙ same_room)
 
 -- a step that gave something was taken
 steps : {A B : Type 0} (m : Result A Refusal) (f : A → Result B Refusal) (y : B) → (m >>= f) ≡ Ok y → (x : A) × (m ≡ Ok x) × (f x ≡ Ok y)

@@ -8,25 +8,25 @@ use Rattle.js_grammar.specs.Literals.{text_from}
 use Rattle.js_grammar.specs.Readers.{row_of, expect, semicolon}
 use Rattle.js_grammar.specs.Expressions.{a_statement, a_part, expression, in_parentheses, primary, a_suffix, suffixed, postfix, unary, an_operand, chain, level, conditional, assignment, an_item, item_value}
 use Rattle.js_grammar.specs.Statements.{evaluated, statement, deeper, script_within}
-use Rattle.js_grammar.specs.Bare.{bare_statement}
+use Rattle.js_grammar.specs.Placeless.{placeless_statement}
 use Rattle.law_tokens.specs.BareTokens.{BareToken, bare_tokens}
 use Rattle.round_trip.specs.Laws.{script_of_any_depth}
 
 -- the script that a text spells, places put aside
-abbrev pub bare_script : List ℕ → Result (List StatementTree) Refusal
-bare_script us = script_of_any_depth us >>= λ body. Ok (map bare_statement body)
+abbrev pub placeless_script : List ℕ → Result (List StatementTree) Refusal
+placeless_script us = script_of_any_depth us >>= λ body. Ok (map placeless_statement body)
 
 -- the tokens of a text, as far as reading keeps them
 abbrev pub bare_text : List ℕ → Result (List BareToken) Refusal
 bare_text us = tokens_of us >>= λ ts. Ok (bare_tokens ts)
 
 -- `a++`, a line feed and `(b)` are printed as two lines and read back
-pub two_lines : bare_script (codes "( a ++ ) ;" ++ 10 ∷ codes "b ;" ++ 10 ∷ []) ≡ bare_script (codes "a++" ++ 10 ∷ codes "(b)")
+pub two_lines : placeless_script (codes "( a ++ ) ;" ++ 10 ∷ codes "b ;" ++ 10 ∷ []) ≡ placeless_script (codes "a++" ++ 10 ∷ codes "(b)")
 unfolding tokens_from piece_at text_from script_within deeper row_of a_statement statement evaluated expression a_part assignment conditional level chain an_operand unary postfix suffixed primary a_suffix semicolon in_parentheses expect
 two_lines = refl
 
 -- an array with a last hole keeps its length
-pub last_hole : bare_script (codes "[ , a , , ] ;" ++ 10 ∷ []) ≡ bare_script (codes "[,a,,]")
+pub last_hole : placeless_script (codes "[ , a , , ] ;" ++ 10 ∷ []) ≡ placeless_script (codes "[,a,,]")
 unfolding tokens_from piece_at text_from script_within deeper row_of a_statement statement evaluated expression a_part assignment conditional level chain an_operand unary postfix suffixed primary a_suffix semicolon an_item item_value expect
 last_hole = refl
 

@@ -8,7 +8,7 @@ use Rattle.js_grammar.specs.Units.{place_after}
 use Rattle.js_grammar.specs.Tokens.{tokens_of}
 use Rattle.js_grammar.specs.Statements.{script_of_text, script_without_limit}
 use Rattle.js_grammar.specs.Spelling.{printed_bytes}
-use Rattle.js_grammar.specs.Bare.{bare_statement}
+use Rattle.js_grammar.specs.Placeless.{placeless_statement}
 use Rattle.law_pieces.specs.Spelt.{is_unit}
 use Rattle.law_tokens.specs.BareTokens.{bare_tokens}
 
@@ -26,7 +26,7 @@ script_of_any_depth us = do
 abbrev pub PrintingIsReadBack : Type 0
 PrintingIsReadBack =
     (us : List ℕ) (body : List StatementTree) → IsText us → script_of_text us ≡ Ok body
-    → (script_of_any_depth (printed_bytes body) >>= λ again. Ok (map bare_statement again)) ≡ Ok (map bare_statement body)
+    → (script_of_any_depth (printed_bytes body) >>= λ again. Ok (map placeless_statement again)) ≡ Ok (map placeless_statement body)
 
 -- Reading and printing lose, invent and reorder no token but round brackets, commas and semicolons.
 abbrev pub TokensAreKept : Type 0

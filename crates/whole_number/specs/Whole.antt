@@ -1,5 +1,5 @@
 -- Whole numbers of at most 2^53 - 1 in size, and operations on them (ECMA-262 5.1, sections 9.5, 9.6, 11.5 and 11.6).
-use Rattle.std.specs.Prelude.{ℕ, ℤ, pos, negsuc, ◌≤ℤ◌, Bool, if◌then◌else◌, nat_le, nat_lt, Result, Ok, Err, int_div, int_rem, unsigned_abs}
+use Rattle.std.specs.Prelude.{ℕ, ℤ, pos, negsuc, ◌≤ℤ◌, Bool, if◌then◌else◌, nat_le, nat_lt, Option, Some, None, Result, Ok, Err, int_div, int_rem, unsigned_abs}
 use Rattle.std.specs.Ordering.{int_eq}
 use Rattle.std.specs.Int.{w32, cast_signed, int_rem_euclid}
 use Rattle.whole_number.specs.declared.answer.WholeAnswer.{WholeAnswer}
@@ -17,6 +17,10 @@ is_whole (negsuc n) = nat_lt n 9007199254740991
 -- the number, or Range where it is too large
 abbrev pub whole_of : ℤ → Result ℤ WholeAnswer
 whole_of n = if is_whole n then Ok n else Err Range
+
+-- a number from 0, or none where it is too large
+abbrev pub whole_or_none : ℕ → Option ℤ
+whole_or_none n = if nat_le n 9007199254740991 then Some (pos n) else None
 
 -- by 0 there is no quotient; a quotient that isn't whole is Fraction (11.5.2)
 abbrev pub quotient_of : ℤ → ℤ → Result ℤ WholeAnswer

@@ -10,4 +10,4 @@ overflow_cast-result c =
 pub returns-clause-value : goal.returns-clause-value
 returns-clause-value c =
     let all = rw c.front-digits.ensures at (sym c.hexadecimal_length.ensures.value ∙ c.if-hexadecimal_length-count.false) in
-    numbered-value c.args.count c.value_of.result c.args.units.now c.requires all (rw c.front-digits.ensures at c.value_of.ensures)
+    numbered-value c.args.count c.capped_value.result c.args.units.now c.requires all (rw c.front-digits.ensures at c.capped_value.ensures)

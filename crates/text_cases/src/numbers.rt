@@ -1,6 +1,7 @@
 // Worked values. Conversions are those of ECMA-262 5.1, sections 9.5 and 9.6, remainders those of section 11.5.3.
-use crate::{Whole, WholeAnswer};
 use std::test::Fail;
+use utf16_text::Text;
+use whole_number::{Whole, WholeAnswer};
 
 const LARGEST: i64 = 9007199254740991;
 
@@ -61,5 +62,31 @@ fn digits_stand_at_the_front(rt: HostRuntime) -> Result<(), Fail> {
     assert_eq!(rt; out, *b"-12xxxxxxxxxxxxxx");
     assert_eq!(rt; whole(-LARGEST)?.write_text(&mut out), 17);
     assert_eq!(rt; out, *b"-9007199254740991");
+    Ok(())
+}
+
+// Digits stand for numbers as ECMA-262 5.1, section 15.1.2.2, has them.
+#[test]
+fn numbers_are_read_from_digits_and_written(rt: HostRuntime) -> Result<(), Fail> {
+    let alloc = rt.alloc();
+    let cases = [
+        (10, "0", Some(0)),
+        (10, "9007199254740991", Some(LARGEST)),
+        (10, "9007199254740992", None),
+        (16, "1fffffffffffff", Some(LARGEST)),
+        (16, "aF", Some(175)),
+        (2, "101", Some(5)),
+        (36, "zZ", Some(1295)),
+        (10, "", Some(0)),
+    ];
+    for (base, digits, wanted) in cases {
+        let text = Text::from_str(alloc, digits)?;
+        let number = Whole::from_digits(base, text.units());
+        assert_eq!(rt; number.map(Whole::get), wanted, "of {digits}");
+    }
+    for (value, wanted) in [(0, "0"), (-12, "-12"), (LARGEST, "9007199254740991")] {
+        let text = whole(value)?.to_text(alloc)?;
+        assert!(rt; text.equals(&Text::from_str(alloc, wanted)?), "of {value}");
+    }
     Ok(())
 }

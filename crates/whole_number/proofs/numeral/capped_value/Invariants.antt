@@ -1,7 +1,7 @@
 use Rattle.std.proofs.Common.{◌≡◌, ◌≤◌, min, take}
-use Rattle.js_lexer.specs.declared.numbers.TheConstants.{LIMIT}
-use Rattle.js_grammar.specs.Units.{value_of}
-use Rattle.js_lexer.proofs.numbers.value_of.Given as goal
+use Rattle.whole_number.specs.declared.numeral.TheConstants.{LIMIT}
+use Rattle.utf16_text.specs.Digits.{value_of}
+use Rattle.whole_number.proofs.numeral.capped_value.Given as goal
 
 abbrev pub invariant-loop-digit : goal.invariant-loop-digit
 invariant-loop-digit l = (l.value ≤ LIMIT) × (l.value ≡ min (value_of l.base (take l.digit-index l.digits)) LIMIT)
