@@ -12,9 +12,6 @@ mod query;
 mod question;
 mod record;
 mod reply;
-#[cfg(test)]
-mod tests;
-
 pub use laws::{one_name_replied, questions_differ};
 pub use query::{read_query, write_query};
 pub use reply::{read_reply, write_reply};

@@ -7,10 +7,7 @@
 mod compare;
 mod part;
 mod place;
-mod skip;
-#[cfg(test)]
-mod tests;
-mod write;
+mod skip;mod write;
 
 pub use compare::{same_name, spells};
 pub use skip::{name_end, skip_name};

@@ -5,7 +5,7 @@ use Rattle.js_tree.specs.declared.operators.UpdateOp.TheVariants.{Increment}
 use Rattle.js_tree.specs.declared.operators.BinaryOp.TheVariants as binary
 use Rattle.js_tree.specs.declared.refusal.ReadKind.TheVariants.{Unexpected, Unsupported}
 use Rattle.js_tree.specs.Tree.{Name, Update, Chain, an_operand, no_operand, Evaluate}
-use Rattle.js_grammar.specs.Examples.{at}
+use Rattle.js_grammar.specs.TokenExamples.{at}
 use Rattle.js_grammar.specs.Tokens.{piece_at, tokens_from}
 use Rattle.js_grammar.specs.Literals.{text_from}
 use Rattle.js_grammar.specs.Readers.{row_of, expect, name, semicolon, unbound}

@@ -16,6 +16,3 @@ mod words;
 pub use lexer::lex;
 pub use units::place_after;
 pub use words::{is_spelled, keyword_of};
-
-#[cfg(test)]
-mod tests;

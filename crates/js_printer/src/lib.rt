@@ -7,9 +7,6 @@
 mod expression;
 mod printer;
 mod script;
-mod statement;
-#[cfg(test)]
-mod tests;
-mod token;
+mod statement;mod token;
 
 pub use script::print;

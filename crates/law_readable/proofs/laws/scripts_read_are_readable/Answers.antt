@@ -1,5 +1,0 @@
-use Rattle.law_readable.proofs.ReadScripts.{scripts_law}
-use Rattle.law_readable.proofs.laws.scripts_read_are_readable.Goals as goal
-
-pub returns : goal.returns
-returns c = scripts_law

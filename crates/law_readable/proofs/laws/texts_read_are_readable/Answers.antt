@@ -1,5 +1,0 @@
-use Rattle.law_readable.proofs.ReadScripts.{texts_law}
-use Rattle.law_readable.proofs.laws.texts_read_are_readable.Goals as goal
-
-pub returns : goal.returns
-returns c = texts_law

@@ -1,5 +1,0 @@
-use Rattle.law_rereading.proofs.Rereading.{scripts_law}
-use Rattle.law_rereading.proofs.laws.scripts_read_are_read_again.Goals as goal
-
-pub returns : goal.returns
-returns c = scripts_law

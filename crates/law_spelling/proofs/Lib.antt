@@ -1,7 +1,0 @@
-pub mod Lines
-pub mod Pieces
-pub mod Rows
-pub mod Scripts
-pub mod Standing
-pub mod StandingTrees
-pub mod Values

@@ -1,6 +1,0 @@
-use Rattle.law_pieces.proofs.Spellings.{each_is_read}
-use Rattle.law_spelling.proofs.Scripts.{scripts_lexed}
-use Rattle.law_spelling.proofs.laws.printed_scripts_are_lexed.Goals as goal
-
-pub returns : goal.returns
-returns c = scripts_lexed each_is_read

@@ -1,5 +1,0 @@
-use Rattle.law_tokens.proofs.KeptTokens.{reading_keeps}
-use Rattle.law_tokens.proofs.laws.reading_keeps_tokens.Goals as goal
-
-pub returns : goal.returns
-returns c = reading_keeps

@@ -1,5 +1,0 @@
-use Rattle.round_trip.proofs.RoundTrip.{read_back}
-use Rattle.round_trip.proofs.laws.printing_is_read_back.Goals as goal
-
-pub returns : goal.returns
-returns c = read_back

@@ -1,5 +1,0 @@
-use Rattle.round_trip.proofs.RoundTrip.{kept}
-use Rattle.round_trip.proofs.laws.tokens_are_kept.Goals as goal
-
-pub returns : goal.returns
-returns c = kept
