@@ -12,6 +12,7 @@ mod query;
 mod question;
 mod record;
 mod reply;
+
 pub use laws::{one_name_replied, questions_differ};
 pub use query::{read_query, write_query};
 pub use reply::{read_reply, write_reply};

@@ -7,7 +7,8 @@
 mod compare;
 mod part;
 mod place;
-mod skip;mod write;
+mod skip;
+mod write;
 
 pub use compare::{same_name, spells};
 pub use skip::{name_end, skip_name};

@@ -7,6 +7,7 @@
 mod expression;
 mod printer;
 mod script;
-mod statement;mod token;
+mod statement;
+mod token;
 
 pub use script::print;
