@@ -1,7 +1,7 @@
-"""Checks when and how `./pac` builds, without a proof: on a copy of it beside four small crates, with an `rt` of its own.
+"""Checks when and how `./pac` builds, without a proof: on a copy of it beside four small crates, with its own `rt`.
 
-That `rt` proves nothing. It writes each call down, and the program that it writes tells the texts of the sources that it
-was built from, and its words.
+That `rt` proves nothing. It writes each call down, and the program that it writes tells the texts of the sources that
+it was built from, and its words.
 """
 import os
 import shutil
