@@ -67,7 +67,7 @@ build() {
   { mkdir -p "$out" && : >"$list"; } || fail "can't write in $out"
   for name in "${names[@]}"; do
     left=$((left - 1))
-    say "proving $name; then $left crates are left; $((SECONDS / 60)) min $((SECONDS % 60)) s so far"
+    say "proving $name, $left more to go, $((SECONDS / 60)) min $((SECONDS % 60)) s so far"
     step=(lib)
     # `rt run` proves the program's own crate, builds the program and runs it once, on this example.
     [ "$name" = pac_main ] && step=(run -- resolve "$top/examples/direct.pac" http://example.com/)

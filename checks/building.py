@@ -88,7 +88,7 @@ def expect_built(what, answer, text, calls=ALL):
     """The call built by these calls of `rt`, and ran a program of these sources."""
     out, errors, status, found = answer
     expect(what, (out, status, found), (text + "\n", 7, calls))
-    if calls and "proving low; then 2 crates are left" not in errors:
+    if calls and "proving low, 2 more to go" not in errors:
         raise AssertionError(f"{what}: no word of what is proved in {errors!r}")
     if not calls:
         expect(what, errors, "")

@@ -6,6 +6,8 @@
 
 mod disk_files;
 mod standard_output;
+#[cfg(test)]
+mod tests;
 mod words;
 
 ghost use Rattle.std.specs.Prelude.{◌≡◌, ◌<◌};
