@@ -1,13 +1,15 @@
 """Runs the examples of README.md and of examples/, and some bad input, and compares what the program writes.
 
-In README.md each block marked `console` is a list of commands, each behind `$ `, with what it writes below it. Only commands
-that begin with `./pac` are run, from the top of the repository.
+In README.md each block marked `console` is a list of commands, each behind `$ `, with what it writes below it. Only
+commands that begin with `./pac` are run, from the top of the repository. One that ends in `echo "status $?"` writes its
+status; that of each other one is 0. Nothing at all is written to standard error.
 """
 import os
 import subprocess
 import sys
 import tempfile
 
+PROGRAM = "crates/pac_main/out/pac_main"
 USAGE = b"usage: pac resolve|map|check|ask|generate ARGUMENTS\n"
 
 
@@ -28,43 +30,45 @@ def readme_commands():
                 expected.append(line)
 
 
-def run(words, **options):
-    return subprocess.run(words, stdout=subprocess.PIPE, timeout=120, check=False, **options)
-
-
-def check(failures, name, found, expected):
-    if found != expected:
-        failures.append(f"{name}: {found!r} in place of {expected!r}")
+def check(failures, name, words, expected, **options):
+    """Runs a command and compares what it writes and its status; what goes to standard error has to be nothing."""
+    options = {"stdout": subprocess.PIPE, "stderr": subprocess.PIPE, **options}
+    found = subprocess.run(words, timeout=120, check=False, **options)
+    found = (found.stdout, found.stderr, found.returncode)
+    text, status = expected
+    if found != (text, b"", status):
+        failures.append(f"{name}: {found!r} in place of {(text, b'', status)!r}")
 
 
 def check_readme(failures):
-    count = 0
-    for command, expected in readme_commands():
-        if command.startswith("./pac"):
-            count += 1
-            found = run(["bash", "-c", command]).stdout.decode()
-            check(failures, command, found, expected)
-    if count == 0:
+    commands = [(command, text) for command, text in readme_commands() if command.startswith("./pac")]
+    for command, text in commands:
+        check(failures, command, ["bash", "-c", command], (text.encode(), 0))
+    if not commands:
         failures.append("README.md: no command")
-    return count
+    return len(commands)
+
+
+def contents(name):
+    with open(name, "rb") as file:
+        return file.read()
+
+
+def examples(ending):
+    """The names of the examples that have a file with this ending, without it."""
+    return sorted(name.removesuffix(ending) for name in os.listdir("examples") if name.endswith(ending))
 
 
 def check_examples(failures):
-    printed = sorted(name[:-8] for name in os.listdir("examples") if name.endswith(".printed"))
+    printed, resolved = examples(".printed"), examples(".url")
     for name in printed:
-        with open(f"examples/{name}.printed", "rb") as file:
-            text = file.read()
-        found = run(["./pac", "check", f"examples/{name}.pac"])
-        check(failures, f"examples/{name}", (found.stdout, found.returncode), (text, 0))
-    names = sorted(name[:-4] for name in os.listdir("examples") if name.endswith(".url"))
-    for name in names:
-        with open(f"examples/{name}.url", encoding="utf-8") as file:
-            url = file.read().strip()
-        with open(f"examples/{name}.report", "rb") as file:
-            report = file.read()
-        found = run(["./pac", "resolve", f"examples/{name}.pac", url])
-        check(failures, f"examples/{name}", (found.stdout, found.returncode), (report, 0))
-    return len(names)
+        text = contents(f"examples/{name}.printed")
+        check(failures, f"check {name}", ["./pac", "check", f"examples/{name}.pac"], (text, 0))
+    for name in resolved:
+        url = contents(f"examples/{name}.url").strip()
+        report = contents(f"examples/{name}.report")
+        check(failures, f"resolve {name}", ["./pac", "resolve", f"examples/{name}.pac", url], (report, 0))
+    return len(printed) + len(resolved)
 
 
 def check_bad_input(failures):
@@ -73,6 +77,9 @@ def check_bad_input(failures):
         long = os.path.join(folder, "long.pac")
         with open(long, "wb") as file:
             file.write(b" " * 1_048_577)
+        empty = os.path.join(folder, "empty.pac")
+        with open(empty, "wb"):
+            pass
         absent = os.path.join(folder, "absent.pac")
         # the words, what is written, the status
         cases = [
@@ -82,22 +89,29 @@ def check_bad_input(failures):
             (["resolve", absent, url], b"fault read script\n", 3),
             (["resolve", folder, url], b"fault read script\n", 3),
             (["resolve", long, url], b"refused script TooLong\n", 4),
+            (["check", empty], b"", 0),
         ]
         for words, text, status in cases:
-            found = run(["./pac"] + words)
-            check(failures, f"pac {words}", (found.stdout, found.returncode), (text, status))
-    # a sink that takes nothing
+            check(failures, f"pac {words}", ["./pac", *words], (text, status))
+    return len(cases)
+
+
+def check_the_outside(failures):
+    """A program's name that isn't UTF-8; a sink that takes nothing, where something is to be written and where not."""
+    report = contents("examples/direct.report")
+    words = ["resolve", "examples/direct.pac", contents("examples/direct.url").strip()]
+    check(failures, "a name that isn't UTF-8", [b"\xff", *words], (report, 0), executable=PROGRAM)
     with open("/dev/full", "wb") as full:
-        found = subprocess.run(["./pac", "resolve", "examples/direct.pac", url], stdout=full, timeout=120, check=False)
-    check(failures, "pac > /dev/full", found.returncode, 7)
-    return len(cases) + 1
+        check(failures, "pac > /dev/full", ["./pac", *words], (None, 7), stdout=full)
+        check(failures, "nothing > /dev/full", ["./pac", "check", "/dev/null"], (None, 0), stdout=full)
+    return 3
 
 
 def main():
     # builds the program where the gate left none
     subprocess.run(["./pac"], stdout=subprocess.DEVNULL, check=False)
     failures = []
-    count = check_readme(failures) + check_examples(failures) + check_bad_input(failures)
+    count = sum(part(failures) for part in [check_readme, check_examples, check_bad_input, check_the_outside])
     for failure in failures:
         print(f"checks: {failure}")
     print(f"checks: {count} passed" if not failures else f"checks: {len(failures)} failed of {count}")

@@ -1,4 +1,4 @@
-// The work of crates/bench_heap in plain Rust, with BTreeMap and Vec: `plain WORK SIZE COUNT` prints a checksum.
+// The work of crates/pac_bench/src/heap.rt in plain Rust, with BTreeMap and Vec: `plain WORK SIZE COUNT` prints a checksum.
 use std::collections::BTreeMap;
 use std::env;
 

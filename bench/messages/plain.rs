@@ -1,4 +1,4 @@
-// The readings of `crates/bench_messages` in a few lines of plain Rust: the same checks, the same answers.
+// The readings of `crates/pac_bench/src/messages.rt` in a few lines of plain Rust: the same checks, the same answers.
 
 fn u16_at(m: &[u8], at: usize) -> Option<usize> {
     Some(usize::from(*m.get(at)?) * 256 + usize::from(*m.get(at + 1)?))

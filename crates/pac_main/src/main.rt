@@ -6,6 +6,9 @@
 
 mod disk_files;
 mod standard_output;
+#[cfg(test)]
+mod tests;
+mod words;
 
 ghost use Rattle.std.specs.Prelude.{◌≡◌, ◌<◌};
 
@@ -13,11 +16,12 @@ use disk_files::DiskFiles;
 use pac_command::{Status, pac};
 use pac_ports::{ClosedLink, FixedClock, ListDice};
 use standard_output::StandardOutput;
+use std::io;
 use std::marker::Brand;
 use std::process::ExitCode;
 use std::sync::ledger::{Blank, Ledger};
-use std::{env, io};
 use step_counter::Steps;
+use words::words_of;
 
 fn main(rt: HostRuntime) -> ExitCode {
     let status = match words_of(&rt) {
@@ -27,13 +31,6 @@ fn main(rt: HostRuntime) -> ExitCode {
         Err(_) => called::<Brand, HostRuntime>(&rt, &Vec::new(rt.alloc()), Blank::new(1)),
     };
     ExitCode::from(status.number())
-}
-
-// The words after the program's name.
-fn words_of<R: env::Env + AllocGlobal>(rt: &R) -> io::Result<Vec<String>> {
-    let mut words = env::args(rt)?;
-    let _program = words.next();
-    Ok(words.collect(rt.alloc())?)
 }
 
 // The top call over the real outside, with a counter of a new ledger.

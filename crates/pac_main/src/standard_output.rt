@@ -21,7 +21,7 @@ impl<R: Print> Sink for StandardOutput<'_, R> {
     ghost state = { λ s. record { told = None; faults = s.faults; sure = None } };
 
     fn write(&mut self, bytes: &[u8]) -> Result<usize, Failed> {
-        match io::writer(self.rt).write(bytes) {
+        match write_some(self.rt, bytes) {
             Ok(taken) if taken <= bytes.len() && (taken > 0 || bytes.is_empty()) => Ok(taken),
             _ => {
                 self.faults = self.faults.saturating_add(1);
@@ -29,4 +29,15 @@ impl<R: Print> Sink for StandardOutput<'_, R> {
             }
         }
     }
+}
+
+// One write, begun again where a signal interrupted it, which takes nothing. No system interrupts 2^64 - 1 times.
+fn write_some<R: Print>(rt: &R, bytes: &[u8]) -> io::Result<usize> {
+    for _turn in 0..u64::MAX {
+        match io::writer(rt).write(bytes) {
+            Err(error) if error.kind() == io::ErrorKind::Interrupted => {}
+            answer => return answer,
+        }
+    }
+    Err(io::Error::from(io::ErrorKind::Interrupted))
 }

@@ -1,12 +1,36 @@
-// The work that is timed. Each piece gives a checksum.
-use anyhow::Result;
+// Work on a heap. Each piece gives a checksum.
+use anyhow::{Context, Result, bail};
 use heap_values::{Found, Kind, ObjectId, Value};
 use object_heap::Heap;
 use std::alloc::Global;
 use utf16_text::{Memory, Text};
 use whole_number::Whole;
 
-/// Twelve equal letters and eight digits: what a script would choose to slow an ordered index down.
+/// The words are a kind of work, a size and a count. It writes the checksum.
+pub fn run(rt: &HostRuntime, words: &[String]) -> Result<()> {
+    let [work, size, count] = words else {
+        bail!("usage: pac_bench heap gets|slots|chosen|random|deleted|objects SIZE COUNT");
+    };
+    let size = size.parse::<u32>().context("a size")?;
+    let count = count.parse::<u32>().context("a count")?;
+    let sum = do_work(rt.alloc(), work.as_str(), size, count)?;
+    println!(rt; "{sum}")?;
+    Ok(())
+}
+
+fn do_work(alloc: Global, work: &str, size: u32, count: u32) -> Result<u64> {
+    match work {
+        "gets" => gets(alloc, size, count),
+        "slots" => slots(alloc, size, count),
+        "chosen" => additions(alloc, count, Naming::Chosen),
+        "random" => additions(alloc, count, Naming::Random),
+        "deleted" => deletions(alloc, count),
+        "objects" => objects(alloc, size, count),
+        _ => bail!("gets, slots, chosen, random, deleted or objects"),
+    }
+}
+
+// Twelve equal letters and eight digits: what a script would choose to slow an ordered index down.
 fn chosen_name(alloc: Global, number: u32) -> Result<Text, Memory> {
     let mut units = [97; 20];
     let mut rest = number;
@@ -17,7 +41,7 @@ fn chosen_name(alloc: Global, number: u32) -> Result<Text, Memory> {
     Text::from_units(alloc, &units)
 }
 
-/// A letter and seven digits. A run may make 16,777,216 units of text: eight for each of 2,000,000 names.
+// A letter and seven digits. A run may make 16,777,216 units of text: eight for each of 2,000,000 names.
 fn short_name(alloc: Global, number: u32) -> Result<Text, Memory> {
     let mut units = [97; 8];
     let mut rest = number;
@@ -28,7 +52,7 @@ fn short_name(alloc: Global, number: u32) -> Result<Text, Memory> {
     Text::from_units(alloc, &units)
 }
 
-/// Twenty letters drawn from the number.
+// Twenty letters drawn from the number.
 fn random_name(alloc: Global, number: u32) -> Result<Text, Memory> {
     let mut units = [97; 20];
     let mut state = u64::from(number).wrapping_mul(0x9E37_79B9_7F4A_7C15);
@@ -41,9 +65,9 @@ fn random_name(alloc: Global, number: u32) -> Result<Text, Memory> {
     Text::from_units(alloc, &units)
 }
 
-/// Which names new properties have.
+// Which names new properties have.
 #[derive(Clone, Copy)]
-pub enum Naming {
+enum Naming {
     Chosen,
     Random,
 }
@@ -86,8 +110,8 @@ fn fill(alloc: Global, heap: &mut Heap, object: ObjectId, size: u32) -> Result<V
     Ok(names)
 }
 
-/// Gets by name, over and over, on an object of so many properties.
-pub fn gets(alloc: Global, size: u32, count: u32) -> Result<u64> {
+// Gets by name, over and over, on an object of so many properties.
+fn gets(alloc: Global, size: u32, count: u32) -> Result<u64> {
     let mut heap = Heap::new(alloc)?;
     let object = heap.make(alloc, Kind::Plain, None)?;
     let names = fill(alloc, &mut heap, object, size)?;
@@ -105,8 +129,8 @@ pub fn gets(alloc: Global, size: u32, count: u32) -> Result<u64> {
     Ok(sum)
 }
 
-/// Reads and writes of slots, in turn, on a scope of so many.
-pub fn slots(alloc: Global, size: u32, count: u32) -> Result<u64> {
+// Reads and writes of slots, in turn, on a scope of so many.
+fn slots(alloc: Global, size: u32, count: u32) -> Result<u64> {
     let mut heap = Heap::new(alloc)?;
     let scope = heap.make_scope(alloc, size, None)?;
     let mut sum: u64 = 0;
@@ -118,8 +142,8 @@ pub fn slots(alloc: Global, size: u32, count: u32) -> Result<u64> {
     Ok(sum)
 }
 
-/// New properties of one object, the name of each made anew.
-pub fn additions(alloc: Global, count: u32, naming: Naming) -> Result<u64> {
+// New properties of one object, the name of each made anew.
+fn additions(alloc: Global, count: u32, naming: Naming) -> Result<u64> {
     let mut heap = Heap::new(alloc)?;
     let object = heap.make(alloc, Kind::Plain, None)?;
     for number in 0..count {
@@ -129,8 +153,8 @@ pub fn additions(alloc: Global, count: u32, naming: Naming) -> Result<u64> {
     Ok(heap.cells())
 }
 
-/// New properties of one object, each deleted again in the order of creation.
-pub fn deletions(alloc: Global, count: u32) -> Result<u64> {
+// New properties of one object, each deleted again in the order of creation.
+fn deletions(alloc: Global, count: u32) -> Result<u64> {
     let mut heap = Heap::new(alloc)?;
     let object = heap.make(alloc, Kind::Plain, None)?;
     let names = fill(alloc, &mut heap, object, count)?;
@@ -143,8 +167,8 @@ pub fn deletions(alloc: Global, count: u32) -> Result<u64> {
     Ok(sum)
 }
 
-/// So many objects of so many properties each, the name of each made anew.
-pub fn objects(alloc: Global, count: u32, size: u32) -> Result<u64> {
+// So many objects of so many properties each, the name of each made anew.
+fn objects(alloc: Global, count: u32, size: u32) -> Result<u64> {
     let mut heap = Heap::new(alloc)?;
     for _object in 0..count {
         let object = heap.make(alloc, Kind::Plain, None)?;

@@ -1,11 +1,27 @@
-// The replies that are read. The number in the datagram changes from one reading to the next.
+// Replies, read so often. The number in the datagram changes from one reading to the next.
 ghost use Rattle.std.specs.Prelude.{◌<◌};
 
+use anyhow::{Context, Result, bail};
 use dns_message::{read_reply, write_reply};
 use pac_names::{Answer, LookupName};
 
-/// Reads the reply with one address of example.com, so often.
-pub(crate) fn read_plain(count: u32) -> u64 {
+/// The words are a kind of reply and a count. It writes the sum of the addresses, which depends on each reading.
+pub fn run(rt: &HostRuntime, words: &[String]) -> Result<()> {
+    let [kind, count] = words else {
+        bail!("usage: pac_bench messages plain|chain COUNT");
+    };
+    let count = count.parse::<u32>().context("a count")?;
+    let sum = match kind.as_str() {
+        "plain" => read_plain(count),
+        "chain" => read_chain(count),
+        _ => bail!("plain or chain"),
+    };
+    println!(rt; "{sum}")?;
+    Ok(())
+}
+
+// Reads the reply with one address of example.com, so often.
+fn read_plain(count: u32) -> u64 {
     let Some(name) = LookupName::from_bytes(b"example.com") else {
         return 0;
     };
@@ -14,8 +30,8 @@ pub(crate) fn read_plain(count: u32) -> u64 {
     read_often(&mut buffer[..length], &name, count)
 }
 
-/// Reads a chain of 16 aliases from the name `a`, each record before the one that leads to it, so often.
-pub(crate) fn read_chain(count: u32) -> u64 {
+// Reads a chain of 16 aliases from the name `a`, each record before the one that leads to it, so often.
+fn read_chain(count: u32) -> u64 {
     let Some(name) = LookupName::from_bytes(b"a") else {
         return 0;
     };
