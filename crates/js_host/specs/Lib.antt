@@ -1,0 +1,4 @@
+pub mod Answers
+pub mod Seen
+pub mod Codes
+pub mod Examples

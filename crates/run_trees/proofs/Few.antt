@@ -1,0 +1,38 @@
+-- The names of a run are distinct, and few.
+use Rattle.std.proofs.Common.{◌≡◌, ◌<◌, refl, List, [], ◌∷◌, ◌++◌, length, Bool, true, false, not, ◌&&◌, if◌then◌else◌, arith, length-append}
+use Rattle.std.specs.Prelude.{nat_le}
+use Rattle.std.specs.List.{IsDistinct}
+use Rattle.std.proofs.lemmas.Bool.{leb-false}
+use Rattle.std.proofs.lemmas.Map.Keys.{IsDistinct-push}
+use Rattle.pac_names.specs.Comparing.{names_equal}
+use Rattle.js_host.specs.Answers.{Name, AnswerMap}
+use Rattle.js_host.specs.Seen.{most_names, was_asked}
+use Rattle.run_trees.specs.RunTree.{RunTree, Done, Ask, Tell}
+use Rattle.run_trees.specs.WholeRun.{rest_of_run, reply_of, asked_with}
+use Rattle.run_trees.specs.Laws.{AreFew}
+
+few_by : (asked : List Name) (name : Name) → AreFew asked → (many : Bool) → nat_le most_names (length asked) ≡ many
+    → (was : Bool) → was_asked asked name ≡ was
+    → AreFew (if many && not was then asked else (if was then asked else asked ++ name ∷ []))
+few_by asked name few true m true w = few
+few_by asked name few true m false w = few
+few_by asked name few false m true w = few
+few_by asked name few false m false w =
+    let room : length asked < most_names = leb-false most_names (length asked) m in
+    record {
+      distinct = IsDistinct-push names_equal asked name few.distinct w;
+      few = rw (length-append asked (name ∷ [])) (omega arith);
+    }
+
+pub few-rest : {End : Type 0} (all : AnswerMap) (run : RunTree End) (asked : List Name) → AreFew asked
+    → AreFew (rest_of_run all run asked).asked
+unfolding rest_of_run
+few-rest all (Done end) asked few = few
+few-rest all (Tell text next) asked few = few-rest all next asked few
+few-rest all (Ask name next) asked few =
+    few-rest all (next (reply_of all asked name)) (asked_with asked name)
+    (few_by asked name few (nat_le most_names (length asked)) refl (was_asked asked name) refl)
+
+pub few-none : AreFew []
+unfolding IsDistinct
+few-none = record { distinct = tt; few = omega arith }
