@@ -96,22 +96,22 @@ chosen : {State Stop End B : Type 0} (b : Bool) (one other : Run State Stop End 
 chosen true one other has has_other = has
 chosen false one other has has_other = has_other
 
-module _ {State Value Target End : Type 0} where
-  caught-has : {A : Type 0} (handler : Value → Run State (Abrupt Value Target) End A)
-      → ((value : Value) → HasOneEnd (handler value))
-      → (result : Result A (Abrupt Value Target)) → HasOneEnd (λ after. caught handler after result)
+module _ {State Cause Value Target End : Type 0} where
+  caught-has : {A : Type 0} (handler : Cause → Run State (Abrupt Cause Value Target) End A)
+      → ((cause : Cause) → HasOneEnd (handler cause))
+      → (result : Result A (Abrupt Cause Value Target)) → HasOneEnd (λ after. caught handler after result)
   caught-has handler has (Ok value) = one_end-ends (Ok value)
   caught-has handler has (Err (Thrown value)) = has value
   caught-has handler has (Err (Returned value)) = one_end-ends (Err (Returned value))
   caught-has handler has (Err (Broken target)) = one_end-ends (Err (Broken target))
   caught-has handler has (Err (Continued target)) = one_end-ends (Err (Continued target))
 
-  pub one_end-catching : {A : Type 0} (part : Run State (Abrupt Value Target) End A)
-      (handler : Value → Run State (Abrupt Value Target) End A)
-      → HasOneEnd part → ((value : Value) → HasOneEnd (handler value)) → HasOneEnd (catching part handler)
+  pub one_end-catching : {A : Type 0} (part : Run State (Abrupt Cause Value Target) End A)
+      (handler : Cause → Run State (Abrupt Cause Value Target) End A)
+      → HasOneEnd part → ((cause : Cause) → HasOneEnd (handler cause)) → HasOneEnd (catching part handler)
   one_end-catching part handler before has = one_end-by (caught handler) (caught-has handler has) part before
 
-  broken-has : {A : Type 0} (nothing : A) (is_here : Target → Bool) (result : Result A (Abrupt Value Target))
+  broken-has : {A : Type 0} (nothing : A) (is_here : Target → Bool) (result : Result A (Abrupt Cause Value Target))
       → HasOneEnd {State = State} {End = End} (λ after. broken_at nothing is_here after result)
   broken-has nothing is_here (Ok value) = one_end-ends (Ok value)
   broken-has nothing is_here (Err (Thrown value)) = one_end-ends (Err (Thrown value))
@@ -121,13 +121,13 @@ module _ {State Value Target End : Type 0} where
   broken-has nothing is_here (Err (Continued target)) = one_end-ends (Err (Continued target))
 
   pub one_end-breaking : {A : Type 0} (nothing : A) (is_here : Target → Bool)
-      (part : Run State (Abrupt Value Target) End A) → HasOneEnd part → HasOneEnd (breaking nothing is_here part)
+      (part : Run State (Abrupt Cause Value Target) End A) → HasOneEnd part → HasOneEnd (breaking nothing is_here part)
   one_end-breaking nothing is_here part before =
       one_end-by (broken_at nothing is_here) (broken-has nothing is_here) part before
 
-  turned-has : {A : Type 0} (nothing : A) (is_here : Target → Bool) (next : Run State (Abrupt Value Target) End A)
+  turned-has : {A : Type 0} (nothing : A) (is_here : Target → Bool) (next : Run State (Abrupt Cause Value Target) End A)
       → HasOneEnd next
-      → (result : Result A (Abrupt Value Target)) → HasOneEnd (λ after. turned nothing is_here next after result)
+      → (result : Result A (Abrupt Cause Value Target)) → HasOneEnd (λ after. turned nothing is_here next after result)
   turned-has nothing is_here next has (Ok value) = has
   turned-has nothing is_here next has (Err (Thrown value)) = one_end-ends (Err (Thrown value))
   turned-has nothing is_here next has (Err (Returned value)) = one_end-ends (Err (Returned value))
@@ -137,12 +137,12 @@ module _ {State Value Target End : Type 0} where
       chosen (is_here target) next (ends (Err (Continued target))) has (one_end-ends _)
 
   pub one_end-turning : {A : Type 0} (nothing : A) (is_here : Target → Bool)
-      (body next : Run State (Abrupt Value Target) End A)
+      (body next : Run State (Abrupt Cause Value Target) End A)
       → HasOneEnd body → HasOneEnd next → HasOneEnd (turning nothing is_here body next)
   one_end-turning nothing is_here body next before has =
       one_end-by (turned nothing is_here next) (turned-has nothing is_here next has) body before
 
-  returned-has : (nothing : Value) (result : Result Value (Abrupt Value Target))
+  returned-has : (nothing : Value) (result : Result Value (Abrupt Cause Value Target))
       → HasOneEnd {State = State} {End = End} (λ after. returned_to nothing after result)
   returned-has nothing (Ok value) = one_end-ends (Ok nothing)
   returned-has nothing (Err (Thrown value)) = one_end-ends (Err (Thrown value))
@@ -150,11 +150,11 @@ module _ {State Value Target End : Type 0} where
   returned-has nothing (Err (Broken target)) = one_end-ends (Err (Broken target))
   returned-has nothing (Err (Continued target)) = one_end-ends (Err (Continued target))
 
-  pub one_end-returning : (nothing : Value) (body : Run State (Abrupt Value Target) End Value) → HasOneEnd body
+  pub one_end-returning : (nothing : Value) (body : Run State (Abrupt Cause Value Target) End Value) → HasOneEnd body
       → HasOneEnd (returning nothing body)
   one_end-returning nothing body before = one_end-by (returned_to nothing) (returned-has nothing) body before
 
-pub words : {State Value Target End A B : Type 0} → WordsHaveOneEnd State Value Target End A B
+pub words : {State Cause Value Target End A B : Type 0} → WordsHaveOneEnd State Cause Value Target End A B
 words =
     record {
       ends = one_end-ends;

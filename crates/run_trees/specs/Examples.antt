@@ -43,24 +43,24 @@ up_to_the_first = refl
 
 -- ---- the words of runs
 
-module _ (State Value Target End : Type 0) where
+module _ (State Cause Value Target End : Type 0) where
   abbrev Part : Type 0
-  Part = Run State (Abrupt Value Target) End Value
+  Part = Run State (Abrupt Cause Value Target) End Value
 
   abbrev Next : Type 0
-  Next = After State (Abrupt Value Target) End Value
+  Next = After State (Abrupt Cause Value Target) End Value
 
   -- a handler takes what was thrown, and not what is returned
-  pub thrown_is_caught : (value : Value) (handler : Value → Part)
+  pub thrown_is_caught : (value : Value) (handler : Cause → Part)
       → catching (abrupt (Thrown value)) handler ≡ handler value
-  thrown_is_caught value handler = refl
+  thrown_is_caught cause handler = refl
 
-  pub returned_is_not_caught : (value : Value) (handler : Value → Part)
+  pub returned_is_not_caught : (value : Value) (handler : Cause → Part)
       → catching (abrupt (Returned value)) handler ≡ abrupt (Returned value)
   returned_is_not_caught value handler = refl
 
   -- neither a handler nor a last part sees the end of the whole run
-  pub no_handler_sees_the_end : (end : End) (handler : Value → Part) → catching (halt end) handler ≡ halt end
+  pub no_handler_sees_the_end : (end : End) (handler : Cause → Part) → catching (halt end) handler ≡ halt end
   no_handler_sees_the_end end handler = refl
 
   pub no_last_part_sees_the_end : (end : End) (last : Part) → with_last {A = Value} (halt end) last ≡ halt end
@@ -98,7 +98,7 @@ module _ (State Value Target End : Type 0) where
   end_has_no_value none value after = refl
 
   -- no handler sees that a name is missing: the run stops there
-  pub no_handler_sees_a_missing_name : (next : Reply → Part) (handler : Value → Part) (after : Next) (state : State)
+  pub no_handler_sees_a_missing_name : (next : Reply → Part) (handler : Cause → Part) (after : Next) (state : State)
       → walk (catching (look_up x >>= next) handler after state) (fresh (partly nothing))
       ≡ Stopped x (record { known = partly nothing; asked = x ∷ []; alerts = [] })
   unfolding walk

@@ -82,24 +82,24 @@ module _ {State Stop End : Type 0} where
 
 -- ---- what takes an abrupt end
 
-module _ {State Value Target End : Type 0} where
+module _ {State Cause Value Target End : Type 0} where
   -- a handler takes what was thrown (12.14)
-  abbrev pub caught : {A : Type 0} → (Value → Run State (Abrupt Value Target) End A)
-      → After State (Abrupt Value Target) End A → After State (Abrupt Value Target) End A
+  abbrev pub caught : {A : Type 0} → (Cause → Run State (Abrupt Cause Value Target) End A)
+      → After State (Abrupt Cause Value Target) End A → After State (Abrupt Cause Value Target) End A
   caught handler after (Ok value) = after (Ok value)
-  caught handler after (Err (Thrown value)) = handler value after
+  caught handler after (Err (Thrown cause)) = handler cause after
   caught handler after (Err (Returned value)) = after (Err (Returned value))
   caught handler after (Err (Broken target)) = after (Err (Broken target))
   caught handler after (Err (Continued target)) = after (Err (Continued target))
 
-  abbrev pub catching : {A : Type 0} → Run State (Abrupt Value Target) End A
-      → (Value → Run State (Abrupt Value Target) End A) → Run State (Abrupt Value Target) End A
+  abbrev pub catching : {A : Type 0} → Run State (Abrupt Cause Value Target) End A
+      → (Value → Run State (Abrupt Cause Value Target) End A) → Run State (Abrupt Cause Value Target) End A
   catching part handler = λ after. part (caught handler after)
 
   -- a break to one of these targets ends a statement as if it had come to its end, with nothing as its value (12.11,
   -- 12.12)
   abbrev pub broken_at : {A : Type 0} → A → (Target → Bool)
-      → After State (Abrupt Value Target) End A → After State (Abrupt Value Target) End A
+      → After State (Abrupt Cause Value Target) End A → After State (Abrupt Cause Value Target) End A
   broken_at nothing is_here after (Ok value) = after (Ok value)
   broken_at nothing is_here after (Err (Thrown value)) = after (Err (Thrown value))
   broken_at nothing is_here after (Err (Returned value)) = after (Err (Returned value))
@@ -108,13 +108,13 @@ module _ {State Value Target End : Type 0} where
   broken_at nothing is_here after (Err (Continued target)) = after (Err (Continued target))
 
   abbrev pub breaking : {A : Type 0} → A → (Target → Bool)
-      → Run State (Abrupt Value Target) End A → Run State (Abrupt Value Target) End A
+      → Run State (Abrupt Cause Value Target) End A → Run State (Abrupt Cause Value Target) End A
   breaking nothing is_here part = λ after. part (broken_at nothing is_here after)
 
   -- the body of a loop, and then the next turn: a continue to the loop goes on with it, and a break to the loop leaves
   -- (12.6)
-  abbrev pub turned : {A : Type 0} → A → (Target → Bool) → Run State (Abrupt Value Target) End A
-      → After State (Abrupt Value Target) End A → After State (Abrupt Value Target) End A
+  abbrev pub turned : {A : Type 0} → A → (Target → Bool) → Run State (Abrupt Cause Value Target) End A
+      → After State (Abrupt Cause Value Target) End A → After State (Abrupt Cause Value Target) End A
   turned nothing is_here next after (Ok value) = next after
   turned nothing is_here next after (Err (Thrown value)) = after (Err (Thrown value))
   turned nothing is_here next after (Err (Returned value)) = after (Err (Returned value))
@@ -124,18 +124,18 @@ module _ {State Value Target End : Type 0} where
       if is_here target then next after else after (Err (Continued target))
 
   abbrev pub turning : {A : Type 0} → A → (Target → Bool)
-      → Run State (Abrupt Value Target) End A → Run State (Abrupt Value Target) End A
-      → Run State (Abrupt Value Target) End A
+      → Run State (Abrupt Cause Value Target) End A → Run State (Abrupt Cause Value Target) End A
+      → Run State (Abrupt Cause Value Target) End A
   turning nothing is_here body next = λ after. body (turned nothing is_here next after)
 
   -- the body of a function: what it returns is its value, and nothing where it comes to its end (13.2.1)
   abbrev pub returned_to : Value
-      → After State (Abrupt Value Target) End Value → After State (Abrupt Value Target) End Value
+      → After State (Abrupt Cause Value Target) End Value → After State (Abrupt Cause Value Target) End Value
   returned_to nothing after (Ok value) = after (Ok nothing)
   returned_to nothing after (Err (Thrown value)) = after (Err (Thrown value))
   returned_to nothing after (Err (Returned value)) = after (Ok value)
   returned_to nothing after (Err (Broken target)) = after (Err (Broken target))
   returned_to nothing after (Err (Continued target)) = after (Err (Continued target))
 
-  abbrev pub returning : Value → Run State (Abrupt Value Target) End Value → Run State (Abrupt Value Target) End Value
+  abbrev pub returning : Value → Run State (Abrupt Cause Value Target) End Value → Run State (Abrupt Cause Value Target) End Value
   returning nothing body = λ after. body (returned_to nothing after)

@@ -36,6 +36,6 @@ pub fn nothing_is_missing()
 {}
 
 /// Each word of runs makes parts that come to one end, whatever comes after them, of parts that do.
-pub fn words_have_one_end<State, Value, Target, End, A, B>()
-    ensures { WordsHaveOneEnd State Value Target End A B }
+pub fn words_have_one_end<State, Cause, Value, Target, End, A, B>()
+    ensures { WordsHaveOneEnd State Cause Value Target End A B }
 {}
