@@ -101,7 +101,7 @@ module _ {State Cause Value Target End : Type 0} where
       → ((cause : Cause) → HasOneEnd (handler cause))
       → (result : Result A (Abrupt Cause Value Target)) → HasOneEnd (λ after. caught handler after result)
   caught-has handler has (Ok value) = one_end-ends (Ok value)
-  caught-has handler has (Err (Thrown value)) = has value
+  caught-has handler has (Err (Thrown cause)) = has cause
   caught-has handler has (Err (Returned value)) = one_end-ends (Err (Returned value))
   caught-has handler has (Err (Broken target)) = one_end-ends (Err (Broken target))
   caught-has handler has (Err (Continued target)) = one_end-ends (Err (Continued target))

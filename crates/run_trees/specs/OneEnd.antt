@@ -41,7 +41,7 @@ pub record WordsHaveOneEnd (State Cause Value Target End A B : Type 0) : Type 0 
   pub look_up : (name : Name) → HasOneEnd {State = State} {Stop = Abrupt Cause Value Target} {End = End} (runs.look_up name)
   pub tell : (text : List ℕ) → HasOneEnd {State = State} {Stop = Abrupt Cause Value Target} {End = End} (runs.tell text)
   pub catching : (part : Run State (Abrupt Cause Value Target) End A)
-      (handler : Value → Run State (Abrupt Cause Value Target) End A)
+      (handler : Cause → Run State (Abrupt Cause Value Target) End A)
       → HasOneEnd part → ((cause : Cause) → HasOneEnd (handler cause)) → HasOneEnd (runs.catching part handler)
   pub breaking : (nothing : A) (is_here : Target → Bool) (part : Run State (Abrupt Cause Value Target) End A)
       → HasOneEnd part → HasOneEnd (runs.breaking nothing is_here part)

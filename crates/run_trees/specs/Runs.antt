@@ -93,7 +93,7 @@ module _ {State Cause Value Target End : Type 0} where
   caught handler after (Err (Continued target)) = after (Err (Continued target))
 
   abbrev pub catching : {A : Type 0} → Run State (Abrupt Cause Value Target) End A
-      → (Value → Run State (Abrupt Cause Value Target) End A) → Run State (Abrupt Cause Value Target) End A
+      → (Cause → Run State (Abrupt Cause Value Target) End A) → Run State (Abrupt Cause Value Target) End A
   catching part handler = λ after. part (caught handler after)
 
   -- a break to one of these targets ends a statement as if it had come to its end, with nothing as its value (12.11,
