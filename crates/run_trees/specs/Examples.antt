@@ -51,8 +51,8 @@ module _ (State Cause Value Target End : Type 0) where
   Next = After State (Abrupt Cause Value Target) End Value
 
   -- a handler takes what was thrown, and not what is returned
-  pub thrown_is_caught : (value : Value) (handler : Cause → Part)
-      → catching (abrupt (Thrown value)) handler ≡ handler value
+  pub thrown_is_caught : (cause : Cause) (handler : Cause → Part)
+      → catching (abrupt (Thrown cause)) handler ≡ handler cause
   thrown_is_caught cause handler = refl
 
   pub returned_is_not_caught : (value : Value) (handler : Cause → Part)
