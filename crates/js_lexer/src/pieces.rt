@@ -11,12 +11,11 @@ use crate::signs::sign_at;
 use crate::slashes::divides;
 use crate::texts::text_at;
 use crate::units::{
-    begins_digit, begins_with, behind, inline_length, is_digit, is_space, is_word_start,
-    space_length, word_length,
+    begins_digit, begins_with, behind, inline_length, is_word_start, space_length, word_length,
 };
 use js_tree::{Place, ReadAnswer, ReadKind, Token, TokenKind};
 use std::alloc::Global;
-use utf16_text::{Memory, Text};
+use utf16_text::{Memory, Text, is_digit, is_space};
 
 const DOT: u16 = 0x2E;
 

@@ -8,7 +8,7 @@ ghost use Rattle.js_tree.specs.declared.refusal.ReadAnswer.TheVariants as answer
 use crate::units::{begins_digit, begins_with, behind, front, hexadecimal_length};
 use js_tree::{Place, ReadAnswer, ReadKind};
 use std::alloc::Global;
-use utf16_text::{Text, is_line_terminator};
+use utf16_text::{Text, is_digit, is_line_terminator};
 use whole_number::capped_value;
 
 const LINE_FEED: u16 = 0x0A;
