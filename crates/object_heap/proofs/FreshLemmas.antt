@@ -1,5 +1,5 @@
 -- The objects that the tables give: how many there are, and that each prototype is older than its object.
-use Rattle.std.proofs.Common.{◌≡◌, ℕ, ◌<◌, ◌≤◌, ◌+◌, zero, suc, Bool, true, List, [], ◌∷◌, ◌++◌, Option, Some, None, IfSome, slice_get, slice_set, length, length-append, map, fold, refl, ap, ◌∙◌, sym, subst, arith}
+use Rattle.std.proofs.Common.{◌≡◌, ℕ, ◌<◌, ◌≤◌, ◌+◌, zero, suc, true, List, [], ◌∷◌, Option, Some, None, IfSome, slice_get, length, length-append, map, fold, refl, ap, sym, subst, arith}
 use Rattle.std.proofs.Math.ListN.{length-set}
 use Rattle.std.proofs.lemmas.Bool.{and_parts}
 use Rattle.std.proofs.lemmas.Bool.Decides.{nat_tests}

@@ -1,5 +1,5 @@
 -- The line of an object is the object, and behind it the line of its prototype.
-use Rattle.std.proofs.Common.{◌≡◌, ℕ, ◌<◌, ◌≤◌, ◌+◌, Bool, true, false, if◌then◌else◌, List, [], ◌∷◌, ◌++◌, reverse, get_or, length-append, append_assoc, ◌≢◌, Option, Some, None, IfSome, slice_get, length, take, drop, length-take, inl, inr, refl, ap, ◌∙◌, sym, subst, arith}
+use Rattle.std.proofs.Common.{◌≡◌, ℕ, ◌<◌, ◌≤◌, ◌+◌, Bool, true, false, if◌then◌else◌, List, [], ◌∷◌, ◌++◌, reverse, get_or, length-append, append_assoc, ◌≢◌, Option, Some, None, IfSome, length, take, drop, length-take, inl, inr, refl, ap, ◌∙◌, sym, subst, arith}
 use Rattle.std.proofs.lemmas.List.{length-reverse, reverse-append, take-append-drop, drop_more}
 use Rattle.std.proofs.lemmas.Bool.{ne_eqb, eq-eqb}
 use Rattle.std.proofs.lemmas.Option.{IfSome_then, slice_get_cases}

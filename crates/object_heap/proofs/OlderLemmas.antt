@@ -1,5 +1,5 @@
 -- Each prototype stays older than its object.
-use Rattle.std.proofs.Common.{◌≡◌, ℕ, ◌<◌, ◌⊎◌, zero, suc, List, [], ◌∷◌, ◌++◌, Option, Some, None, IfSome, slice_get, slice_set, length, refl, ap, sym, subst, inl, inr}
+use Rattle.std.proofs.Common.{◌≡◌, ℕ, ◌<◌, ◌⊎◌, zero, suc, List, [], ◌∷◌, ◌++◌, Option, IfSome, slice_get, slice_set, length, refl, ap, sym, subst, inl, inr}
 use Rattle.heap_values.specs.declared.ids.ObjectId.{ObjectId}
 use Rattle.heap_values.specs.Views.{ObjectView}
 use Rattle.object_heap.specs.Heap.{prototype_in, PrototypesAreOlder}

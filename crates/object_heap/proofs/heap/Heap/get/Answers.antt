@@ -1,7 +1,7 @@
 use Rattle.std.proofs.Common.{◌<◌, ◌∙◌, sym, ap, subst, reverse, Option}
 use Rattle.std.specs.Prelude.{IfSome}
 use Rattle.heap_values.specs.declared.ids.ObjectId.{ObjectId}
-use Rattle.object_heap.specs.Heap.{object_at, line_of, is_absent, or_found, own_found_in, found_among}
+use Rattle.object_heap.specs.Heap.{object_at, line_of, is_absent, own_found_in, found_among}
 use Rattle.object_heap.proofs.LineLemmas.{line_among-none, or_found-absent, found_among-own, found_among-line}
 use Rattle.object_heap.proofs.heap.Heap.get.Goals as goal
 
