@@ -2,7 +2,7 @@
 use Rattle.std.proofs.Common.{◌≡◌, ℕ, suc, ◌+◌, ◌<◌, ◌≤◌, Bool, true, false, cond, leb, List, ◌∷◌, length, Option, Some, None, refl, sym, ◌∙◌, ap, subst, arith}
 use Rattle.std.specs.Prelude.{IsSome, IfSome, is_some}
 use Rattle.std.proofs.lemmas.Bool.{leb-true, le-leb, lt-leb, false≢true}
-use Rattle.dns_name.specs.Wire.{WireName, name_at, labels_at, lowered, lowered_of, behind_of, is_same_name, are_same, same_labels}
+use Rattle.dns_name.specs.Wire.{WireName, name_at, labels_at, lowered, lowered_of, behind_of, is_same_name, are_labels, are_same, same_labels}
 use Rattle.dns_message.specs.Numbers.{number_at}
 use Rattle.dns_message.specs.Record.{Fact, Says, RecordThere, record_at, record_from, facts_at, facts_behind, onto_facts, says_of, there}
 use Rattle.dns_message.specs.Seen.{facts_known, IsThere, labels_known, name_there}
@@ -83,6 +83,18 @@ record_no_data message at fields e short = go (name_at message at) e where
 some_says : (owner : List (List ℕ)) (behind : ℕ) (says : Option Says) → IsSome (there owner behind says) → IsSome says
 some_says owner behind None h = h
 some_says owner behind (Some s) h = refl
+
+-- a name stands where a record can be read, and where one is spelled
+pub name_of_record : (message : List ℕ) (at : ℕ) → IsSome (record_at message at) → IsSome (name_at message at)
+unfolding record_at
+name_of_record message at h = go (name_at message at) h where
+  go : (name : Option WireName) → IsSome (record_from message name) → IsSome name
+  go None h = h
+  go (Some name) h = refl
+
+pub name_spelled : (name : Option WireName) (labels : List (List ℕ)) → are_labels (lowered_of name) labels ≡ true → IsSome name
+name_spelled None labels h = h
+name_spelled (Some name) labels h = refl
 
 -- a record stands where one can be read
 pub known_there : (message : List ℕ) (at fields : ℕ) → IsSome (record_at message at) → IfSome (behind_of (name_at message at)) (λ behind. fields ≡ behind)

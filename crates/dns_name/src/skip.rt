@@ -1,5 +1,5 @@
 // Behind a name.
-ghost use Rattle.std.specs.Prelude.{◌≡◌, ◌≤◌, IfSome, length, max};
+ghost use Rattle.std.specs.Prelude.{◌≡◌, ◌≤◌, IfSome, IsSome, length, max};
 ghost use Rattle.dns_name.specs.Wire.{behind_of, name_at};
 
 use crate::part::{Part, read_part};
@@ -38,6 +38,7 @@ pub fn skip_name(message: &[u8], at: usize) -> Option<usize>
 
 /// The offset behind the name at an offset where one is known to stand: its pointers are not followed.
 pub fn name_end(message: &[u8], at: usize) -> usize
+    requires { IsSome (name_at message.now at) }
     ensures behind { IfSome (behind_of (name_at message.now at)) (λ behind. result ≡ behind) }
     ensures within { result ≤ max at (length message.now) }
 {

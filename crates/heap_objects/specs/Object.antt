@@ -53,10 +53,14 @@ grown_length_of o name = length_in o.kind o.length name
 abbrev pub put_cost_of : ObjectView → List ℕ → ℕ
 put_cost_of o name = (grown_length_of o name - o.length) + (if is_some (property_at o.properties name) then 0 else 1)
 
--- the property after a write: a new one is listed and can be deleted (8.12.5)
-abbrev pub property_after : Option Property → Value → Property
-property_after None v = record { content = content.Value v; listed = true; deletable = true }
-property_after (Some p) v = record p { content = content.Value v }
+-- the property after a write: a new one is listed and can be deleted, an old one keeps its marks (8.12.5)
+abbrev pub property_after : Value → Option Property → Property
+property_after v None = record { content = content.Value v; listed = true; deletable = true }
+property_after v (Some p) = record p { content = content.Value v }
+
+-- a property with these marks
+abbrev pub value_property : Value → Bool → Bool → Property
+value_property v listed deletable = record { content = content.Value v; listed = listed; deletable = deletable }
 
 -- the object with this property under a name that is not the length of an array
 abbrev pub object_with : ObjectView → List ℕ → Property → ObjectView
@@ -64,7 +68,7 @@ object_with o name p = record o { properties = with_property o.properties name p
 
 -- the object after a write under such a name
 abbrev pub object_after : ObjectView → List ℕ → Value → ObjectView
-object_after o name v = object_with o name (property_after (property_at o.properties name) v)
+object_after o name v = object_with o name (property_after v (property_at o.properties name))
 
 abbrev pub is_deletable : Option Property → Bool
 is_deletable None = true

@@ -21,6 +21,3 @@ pub use names::array_index;
 pub use object::Object;
 pub use properties::Properties;
 pub use scope::Scope;
-
-#[cfg(test)]
-mod tests;

@@ -1,5 +1,5 @@
 // One object.
-ghost use Rattle.std.specs.Prelude.{◌≡◌, ◌-◌, IfOk, OnOk, OnErr, not, fold};
+ghost use Rattle.std.specs.Prelude.{◌≡◌, ◌-◌, false, IfOk, OnOk, OnErr, not, fold};
 ghost use Rattle.std.specs.Option.{option_copied};
 ghost use Rattle.heap_objects.specs.Object.{
   empty_object,
@@ -21,7 +21,7 @@ ghost use Rattle.heap_objects.specs.Properties.{listed_names_of, without_propert
 
 use crate::names::array_index;
 use crate::properties::Properties;
-use heap_values::{Content, Found, Kind, ObjectId, Property, Value, number_text};
+use heap_values::{Content, Found, Kind, ObjectId, Property, Value};
 use std::alloc::Global;
 use std::marker::Model;
 use utf16_text::{Memory, Text, TextList};
@@ -125,6 +125,7 @@ impl Object {
 
     /// Writes a value under a name that is not the length of an array. A new property is listed and can be deleted.
     pub fn put(&mut self, alloc: Global, name: &Text, value: Value) -> Result<(), Memory>
+        requires { is_length self.old.kind name.now ≡ false }
         ensures ok { OnOk result (self.new ≡ object_after self.old name.now value) }
         ensures unchanged { OnErr result (self.new ≡ self.old) }
     {
@@ -134,6 +135,7 @@ impl Object {
 
     /// Gives a name that is not the length of an array this property.
     pub fn define(&mut self, alloc: Global, name: &Text, property: Property) -> Result<(), Memory>
+        requires { is_length self.old.kind name.now ≡ false }
         ensures ok { OnOk result (self.new ≡ object_with self.old name.now property) }
         ensures unchanged { OnErr result (self.new ≡ self.old) }
     {
@@ -188,7 +190,7 @@ fn found_under(alloc: Global, property: Option<&Property>) -> Result<Found, Memo
 }
 
 fn written(old: Option<&Property>, value: Value) -> Property
-    ensures { result ≡ property_after (option_copied old.entry) value }
+    ensures { result ≡ property_after value (option_copied old.entry) }
 {
     let content = Content::Value(value);
     match old {
@@ -221,7 +223,7 @@ fn names_between(alloc: Global, from: u32, to: u32) -> Result<TextList, Memory>
 {
     let mut names = TextList::new(alloc);
     for index in from..to {
-        names.push(alloc, number_text(alloc, Whole::from(index))?)?;
+        names.push(alloc, Whole::from(index).to_text(alloc)?)?;
     }
     Ok(names)
 }

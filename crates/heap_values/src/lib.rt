@@ -6,7 +6,6 @@
 
 mod answer;
 mod built_in;
-mod digits;
 mod found;
 mod ids;
 mod property;
@@ -14,11 +13,7 @@ mod value;
 
 pub use answer::HeapAnswer;
 pub use built_in::BuiltIn;
-pub use digits::{ascii_text, number_text};
 pub use found::Found;
 pub use ids::{Kind, ObjectId, ScopeId};
 pub use property::{Content, Property};
 pub use value::Value;
-
-#[cfg(test)]
-mod tests;

@@ -1,29 +1,19 @@
 -- Values as numbers (ECMA-262 5.1, section 9.3), cut to whole numbers.
-use Rattle.std.specs.Prelude.{ℕ, ◌+◌, ◌*◌, ◌-◌, min, pos, neg_ℤ, List, [], ◌∷◌, Bool, true, false, ◌&&◌, ◌||◌, nat_eq, nat_le, nat_lt, if◌then◌else◌, length, drop, fold, codes}
+use Rattle.std.specs.Prelude.{ℕ, pos, neg_ℤ, List, [], ◌∷◌, Bool, true, false, ◌&&◌, ◌||◌, nat_eq, nat_le, nat_lt, if◌then◌else◌, length, drop, codes}
 use Rattle.std.specs.Ordering.{int_eq}
 use Rattle.std.specs.Str.{bytes_eq}
+use Rattle.utf16_text.specs.Digits.{value_of}
 use Rattle.utf16_text.specs.Letters.{trimmed}
 use Rattle.whole_number.specs.Whole.{is_whole}
 use Rattle.heap_values.specs.declared.value.Value.{Value}
 use Rattle.heap_values.specs.declared.value.Value.TheVariants as value
 use Rattle.js_convert.specs.declared.numeric.Numeric.{Numeric}
 use Rattle.js_convert.specs.declared.numeric.Numeric.TheVariants.{Whole, NotANumber, Fraction, Range}
-use Rattle.js_convert.specs.Units.{is_empty, are_digits, are_hex_digits, behind_digits}
+use Rattle.js_convert.specs.Units.{is_empty, are_digits, are_hexadecimal, behind_digits}
 
 -- the number, or Range where it is over 2^53 - 1
 abbrev pub bounded : ℕ → Numeric
 bounded n = if nat_le n 9007199254740991 then Whole (pos n) else Range
-
--- the number that decimal digits spell, or 2^53 where it is larger
-abbrev pub capped_digits : List ℕ → ℕ
-capped_digits us = min (fold (λ n u. n * 10 + (u - 48)) 0 us) 9007199254740992
-
-abbrev pub hex_digit_value : ℕ → ℕ
-hex_digit_value u = if nat_le u 57 then u - 48 else if nat_le 97 u then u - 87 else u - 55
-
--- the number that hexadecimal digits spell, or 2^53 where it is larger
-abbrev pub capped_hex_digits : List ℕ → ℕ
-capped_hex_digits us = min (fold (λ n u. n * 16 + hex_digit_value u) 0 us) 9007199254740992
 
 abbrev pub is_sign : ℕ → Bool
 is_sign u = nat_eq u 43 || nat_eq u 45
@@ -53,7 +43,7 @@ is_fraction_text us = is_fraction_behind (nat_lt (length (behind_digits us)) (le
 -- a decimal numeral without a sign
 abbrev pub unsigned_numeric : List ℕ → Numeric
 unsigned_numeric us = if bytes_eq us (codes "Infinity") then Range
-    else if are_digits us then bounded (capped_digits us)
+    else if are_digits us then bounded (value_of 10 us)
     else if is_fraction_text us then Fraction
     else NotANumber
 
@@ -69,7 +59,7 @@ decimal_numeric (u ∷ us) = if nat_eq u 45 then negated (unsigned_numeric us)
     else unsigned_numeric (u ∷ us)
 
 abbrev pub hex_numeric : List ℕ → Numeric
-hex_numeric us = if are_hex_digits us then bounded (capped_hex_digits us) else NotANumber
+hex_numeric us = if are_hexadecimal us then bounded (value_of 16 us) else NotANumber
 
 -- `0x` or `0X`
 abbrev pub is_hex_mark : List ℕ → Bool

@@ -1,13 +1,7 @@
 -- Runs of digits (ECMA-262 5.1, section 9.3.1).
-use Rattle.std.specs.Prelude.{ℕ, List, [], ◌∷◌, Bool, true, false, ◌&&◌, ◌||◌, not, if◌then◌else◌}
+use Rattle.std.specs.Prelude.{ℕ, List, [], ◌∷◌, Bool, true, false, ◌&&◌, not, if◌then◌else◌}
 use Rattle.std.specs.List.{list_all}
-use Rattle.utf16_text.specs.Letters.{is_between}
-
-abbrev pub is_digit : ℕ → Bool
-is_digit u = is_between 48 57 u
-
-abbrev pub is_hex_digit : ℕ → Bool
-is_hex_digit u = is_between 48 57 u || is_between 97 102 u || is_between 65 70 u
+use Rattle.utf16_text.specs.Digits.{is_digit, is_hexadecimal}
 
 abbrev pub is_empty : List ℕ → Bool
 is_empty [] = true
@@ -17,8 +11,8 @@ is_empty (u ∷ us) = false
 abbrev pub are_digits : List ℕ → Bool
 are_digits us = not (is_empty us) && list_all is_digit us
 
-abbrev pub are_hex_digits : List ℕ → Bool
-are_hex_digits us = not (is_empty us) && list_all is_hex_digit us
+abbrev pub are_hexadecimal : List ℕ → Bool
+are_hexadecimal us = not (is_empty us) && list_all is_hexadecimal us
 
 -- without the digits at the front
 abbrev pub behind_digits : List ℕ → List ℕ

@@ -1,19 +1,10 @@
 // Runs of digits.
 ghost use Rattle.std.specs.Prelude.{◌≡◌};
 ghost use Rattle.std.specs.List.{list_all};
-ghost use Rattle.js_convert.specs.Units.{is_digit, is_hex_digit, are_digits, are_hex_digits, behind_digits};
+ghost use Rattle.utf16_text.specs.Digits.{is_digit, is_hexadecimal};
+ghost use Rattle.js_convert.specs.Units.{are_digits, are_hexadecimal, behind_digits};
 
-pub(crate) fn is_digit(unit: u16) -> bool
-    ensures { result ≡ is_digit unit }
-{
-    matches!(unit, 48..=57)
-}
-
-pub(crate) fn is_hex_digit(unit: u16) -> bool
-    ensures { result ≡ is_hex_digit unit }
-{
-    matches!(unit, 48..=57 | 97..=102 | 65..=70)
-}
+use utf16_text::{is_digit, is_hexadecimal};
 
 /// Whether there is at least one digit, and nothing else.
 pub(crate) fn are_digits(units: &[u16]) -> bool
@@ -29,16 +20,16 @@ fn all_digits(units: &[u16]) -> bool
 }
 
 /// Whether there is at least one hexadecimal digit, and nothing else.
-pub(crate) fn are_hex_digits(units: &[u16]) -> bool
-    ensures { result ≡ are_hex_digits units.now }
+pub(crate) fn are_hexadecimal(units: &[u16]) -> bool
+    ensures { result ≡ are_hexadecimal units.now }
 {
-    !units.is_empty() && all_hex_digits(units)
+    !units.is_empty() && all_hexadecimal(units)
 }
 
-fn all_hex_digits(units: &[u16]) -> bool
-    ensures { result ≡ list_all is_hex_digit units.now }
+fn all_hexadecimal(units: &[u16]) -> bool
+    ensures { result ≡ list_all is_hexadecimal units.now }
 {
-    units.iter().all(|unit| is_hex_digit(*unit))
+    units.iter().all(|unit| is_hexadecimal(*unit))
 }
 
 /// What stands behind the digits at the front.

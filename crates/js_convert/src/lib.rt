@@ -21,6 +21,3 @@ pub use numeric::{Numeric, to_boolean, to_number};
 pub use operators::binary;
 pub use order::less;
 pub use texts::to_text;
-
-#[cfg(test)]
-mod tests;

@@ -1,6 +1,6 @@
 // Values as numbers.
 ghost use Rattle.std.specs.Prelude.{◌≡◌, ◌≤◌};
-ghost use Rattle.utf16_text.specs.Letters.{is_space_unit, without_space_before, without_space_behind, trimmed};
+ghost use Rattle.utf16_text.specs.Digits.{value_of};
 ghost use Rattle.js_convert.specs.Numeric.{
   numeric_of,
   truth_of,
@@ -13,14 +13,11 @@ ghost use Rattle.js_convert.specs.Numeric.{
   bounded,
   is_fraction_text,
   is_exponent,
-  capped_digits,
-  capped_hex_digits,
-  hex_digit_value,
 };
 
-use crate::digits::{are_digits, are_hex_digits, behind_digits};
+use crate::digits::{are_digits, are_hexadecimal, behind_digits};
 use heap_values::Value;
-use utf16_text::{Text, is_line_terminator, is_white_space};
+use utf16_text::{Text, trimmed};
 use whole_number::Whole;
 
 /// What a value is as a number.
@@ -36,8 +33,6 @@ pub enum Numeric {
 
 /// `Infinity`.
 const INFINITY: [u16; 8] = [73, 110, 102, 105, 110, 105, 116, 121];
-
-const TOO_LARGE: u64 = 9007199254740992;
 
 /// The truth of a value (ECMA-262 5.1, section 9.2).
 pub fn to_boolean(value: &Value) -> bool
@@ -70,7 +65,7 @@ pub fn to_number(value: &Value) -> Numeric
 fn text_to_number(text: &Text) -> Numeric
     ensures { result ≡ text_numeric text.now }
 {
-    trimmed_to_number(trim_end(trim_start(text.units())))
+    trimmed_to_number(trimmed(text.units()))
 }
 
 fn trimmed_to_number(units: &[u16]) -> Numeric
@@ -83,45 +78,13 @@ fn trimmed_to_number(units: &[u16]) -> Numeric
     }
 }
 
-fn is_space(unit: u16) -> bool
-    ensures { result ≡ is_space_unit unit }
-{
-    is_white_space(unit) || is_line_terminator(unit)
-}
-
-fn trim_start(units: &[u16]) -> &[u16]
-    ensures { result.now ≡ without_space_before units.now }
-{
-    let mut rest = units;
-    while let Some((first, others)) = rest.split_first() {
-        if !is_space(*first) {
-            break;
-        }
-        rest = others;
-    }
-    rest
-}
-
-fn trim_end(units: &[u16]) -> &[u16]
-    ensures { result.now ≡ without_space_behind units.now }
-{
-    let mut rest = units;
-    while let Some((last, others)) = rest.split_last() {
-        if !is_space(*last) {
-            break;
-        }
-        rest = others;
-    }
-    rest
-}
-
 fn hex_number(digits: &[u16]) -> Numeric
     ensures { result ≡ hex_numeric digits.now }
 {
-    if !are_hex_digits(digits) {
+    if !are_hexadecimal(digits) {
         return Numeric::NotANumber;
     }
-    number_up_to(hex_value(digits))
+    number_of(16, digits)
 }
 
 fn decimal_number(units: &[u16]) -> Numeric
@@ -154,7 +117,7 @@ fn unsigned_number(units: &[u16]) -> Numeric
         return Numeric::Range;
     }
     if are_digits(units) {
-        return number_up_to(digits_value(units));
+        return number_of(10, units);
     }
     if is_fraction(units) {
         return Numeric::Fraction;
@@ -162,48 +125,15 @@ fn unsigned_number(units: &[u16]) -> Numeric
     Numeric::NotANumber
 }
 
-// The number, where it isn't too large.
-fn number_up_to(value: u64) -> Numeric
-    requires { value ≤ 9007199254740992 }
-    ensures { result ≡ bounded value }
+// The number that the digits spell, where it isn't too large.
+fn number_of(base: u64, digits: &[u16]) -> Numeric
+    requires { base ≤ 36 }
+    ensures { result ≡ bounded (value_of base digits.now) }
 {
-    match Whole::new(value as i64) {
+    match Whole::from_digits(base, digits) {
         Some(whole) => Numeric::Whole(whole),
         None => Numeric::Range,
     }
-}
-
-// The number that the digits spell, or the first one that is too large.
-fn digits_value(digits: &[u16]) -> u64
-    ensures { result ≡ capped_digits digits.now }
-{
-    let mut value: u64 = 0;
-    for digit in digits {
-        value = (value * 10 + u64::from(digit.saturating_sub(48))).min(TOO_LARGE);
-    }
-    value
-}
-
-fn digit_value(digit: u16) -> u16
-    ensures { result ≡ hex_digit_value digit }
-{
-    if digit <= 57 {
-        digit.saturating_sub(48)
-    } else if digit >= 97 {
-        digit - 87
-    } else {
-        digit.saturating_sub(55)
-    }
-}
-
-fn hex_value(digits: &[u16]) -> u64
-    ensures { result ≡ capped_hex_digits digits.now }
-{
-    let mut value: u64 = 0;
-    for digit in digits {
-        value = (value * 16 + u64::from(digit_value(*digit))).min(TOO_LARGE);
-    }
-    value
 }
 
 // Whether it is a decimal numeral with a point or an exponent.

@@ -2,7 +2,7 @@
 ghost use Rattle.std.specs.Prelude.{◌≡◌, IfOk};
 ghost use Rattle.js_convert.specs.Texts.{text_of};
 
-use heap_values::{Value, ascii_text, number_text};
+use heap_values::Value;
 use std::alloc::Global;
 use utf16_text::{Memory, Text};
 
@@ -11,12 +11,12 @@ pub fn to_text(alloc: Global, value: &Value) -> Result<Text, Memory>
     ensures { IfOk result (λ t. t ≡ text_of value.now) }
 {
     match value {
-        Value::Undefined => ascii_text(alloc, b"undefined"),
-        Value::Null => ascii_text(alloc, b"null"),
-        Value::Bool(true) => ascii_text(alloc, b"true"),
-        Value::Bool(false) => ascii_text(alloc, b"false"),
-        Value::Number(number) => number_text(alloc, *number),
+        Value::Undefined => Text::from_latin_1(alloc, b"undefined"),
+        Value::Null => Text::from_latin_1(alloc, b"null"),
+        Value::Bool(true) => Text::from_latin_1(alloc, b"true"),
+        Value::Bool(false) => Text::from_latin_1(alloc, b"false"),
+        Value::Number(number) => number.to_text(alloc),
         Value::Text(text) => text.copy(alloc),
-        Value::Object(_) => ascii_text(alloc, b""),
+        Value::Object(_) => Text::from_latin_1(alloc, b""),
     }
 }

@@ -1,1 +1,3 @@
-pub mod WalkLemmas
+pub mod LineLemmas
+pub mod OlderLemmas
+pub mod FreshLemmas

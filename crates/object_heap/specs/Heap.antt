@@ -1,5 +1,5 @@
 -- The heap of a run: what each call makes of it (ECMA-262 5.1, sections 8.12 and 10.2), and what it refuses.
-use Rattle.std.specs.Prelude.{ℕ, ◌+◌, ◌-◌, zero, suc, pos, List, [], ◌∷◌, ◌++◌, Option, Some, None, Bool, true, false, if◌then◌else◌, slice_get, slice_set, length, nat_lt, nat_le, Result, Ok, Err}
+use Rattle.std.specs.Prelude.{ℕ, ◌+◌, ◌-◌, ◌<◌, pos, List, [], ◌∷◌, ◌++◌, reverse, Option, Some, None, IfSome, Bool, true, false, if◌then◌else◌, slice_get, slice_set, length, nat_eq, nat_lt, nat_le, Result, Ok, Err}
 use Rattle.heap_values.specs.declared.answer.HeapAnswer.{HeapAnswer}
 use Rattle.heap_values.specs.declared.answer.HeapAnswer.TheVariants as answer
 use Rattle.heap_values.specs.declared.found.Found.{Found}
@@ -8,14 +8,13 @@ use Rattle.heap_values.specs.declared.ids.Kind.{Kind}
 use Rattle.heap_values.specs.declared.ids.Kind.TheVariants.{Plain}
 use Rattle.heap_values.specs.declared.ids.ObjectId.{ObjectId}
 use Rattle.heap_values.specs.declared.ids.ScopeId.{ScopeId}
-use Rattle.heap_values.specs.declared.property.Content.TheVariants as content
 use Rattle.heap_values.specs.declared.property.Property.{Property}
 use Rattle.heap_values.specs.declared.value.Value.{Value}
 use Rattle.heap_values.specs.declared.value.Value.TheVariants.{Undefined, Number}
 use Rattle.heap_values.specs.Views.{ObjectView, ScopeView, HeapView}
 use Rattle.heap_objects.specs.Keys.{with_names}
-use Rattle.heap_objects.specs.Object.{empty_object, own_found, is_length, grown_length_of, put_cost_of, object_after, object_with, can_delete, object_without, object_cut}
-use Rattle.heap_objects.specs.Properties.{listed_names_of}
+use Rattle.heap_objects.specs.Object.{empty_object, own_found, is_length, grown_length_of, put_cost_of, object_with, can_delete, object_without, object_cut}
+use Rattle.heap_objects.specs.Properties.{property_at, listed_names_of}
 use Rattle.heap_objects.specs.Scope.{fresh_scope, slot_in, scope_with}
 
 -- the object of this number, where there is one
@@ -39,6 +38,23 @@ abbrev pub length_of : Option ObjectView → ℕ
 length_of None = 0
 length_of (Some o) = o.length
 
+-- ---- the prototypes (8.6.2)
+
+-- each prototype is older than its object
+abbrev pub PrototypesAreOlder : List ObjectView → Type 0
+PrototypesAreOlder objects = (at : ℕ) → IfSome (prototype_in (slice_get objects at)) (λ p. p.0 < at)
+
+-- an object and its prototypes, nearest first, among objects that are given from the newest to the oldest: where the
+-- newest of them is the one that is looked for, it is followed by its prototype, which is looked for among the older ones
+abbrev pub line_among : List ObjectView → Option ObjectId → List ObjectId
+line_among [] id = []
+line_among (o ∷ older) None = []
+line_among (o ∷ older) (Some id) = if nat_eq id.0 (length older) then id ∷ line_among older o.prototype else line_among older (Some id)
+
+-- an object and its prototypes, nearest first. Each prototype is older than its object, so all of them stand there
+abbrev pub line_of : HeapView → Option ObjectId → List ObjectId
+line_of h id = line_among (reverse h.objects) id
+
 -- ---- looking up (8.12.2)
 
 abbrev pub is_absent : Found → Bool
@@ -50,28 +66,18 @@ abbrev pub or_found : Found → Found → Found
 or_found found.Absent rest = rest
 or_found f rest = f
 
-abbrev pub found_behind : (ℕ → Found) → Option ObjectId → Found
-found_behind rest None = found.Absent
-found_behind rest (Some p) = rest p.0
-
--- what an object has, or else its prototype, by `rest`
-abbrev pub found_in : (ℕ → Found) → Option ObjectView → List ℕ → Found
-found_in rest None name = found.Absent
-found_in rest (Some o) name = or_found (own_found o name) (found_behind rest o.prototype)
-
--- the walk along the prototypes, over at most so many objects
-abbrev pub found_along : ℕ → List ObjectView → ℕ → List ℕ → Found
-found_along zero objects id name = found.Absent
-found_along (suc left) objects id name = found_in (λ p. found_along left objects p name) (slice_get objects id) name
-
--- what the object, or else the nearest prototype that has the name, has under it. Each prototype is older than its
--- object, so there are no more of them than the object's number
-abbrev pub found_of : HeapView → ObjectId → List ℕ → Found
-found_of h object name = found_along (suc object.0) h.objects object.0 name
-
 abbrev pub own_found_in : Option ObjectView → List ℕ → Found
 own_found_in None name = found.Absent
 own_found_in (Some o) name = own_found o name
+
+-- what the first of these objects that has the name has under it
+abbrev pub found_among : HeapView → List ObjectId → List ℕ → Found
+found_among h [] name = found.Absent
+found_among h (id ∷ ids) name = or_found (own_found_in (object_at h id) name) (found_among h ids name)
+
+-- what the object, or else the nearest of its prototypes that has the name, has under it
+abbrev pub found_of : HeapView → ObjectId → List ℕ → Found
+found_of h object name = found_among h (line_of h (Some object)) name
 
 -- ---- making
 
@@ -94,48 +100,34 @@ scope_made_of h size parent = if nat_lt 2000000 (h.cells + (size + 1)) then Err 
 
 -- the heap with this object in its place, and so many cells more
 abbrev pub heap_with : HeapView → ℕ → ObjectView → ℕ → HeapView
-heap_with h id o cost = record h { objects = slice_set h.objects id o; cells = h.cells + cost }
+heap_with h at o cost = record h { objects = slice_set h.objects at o; cells = h.cells + cost }
 
 -- a length for an array, where the value is a whole number from 0
-abbrev pub length_put_in : HeapView → ℕ → ObjectView → Value → Result HeapView HeapAnswer
-length_put_in h id o (Number (pos n)) = if nat_lt 100000 n then Err answer.ArrayTooLong
+abbrev pub length_stored : HeapView → ℕ → ObjectView → Value → Result HeapView HeapAnswer
+length_stored h at o (Number (pos n)) = if nat_lt 100000 n then Err answer.ArrayTooLong
     else if nat_lt 2000000 (h.cells + (n - o.length)) then Err answer.HeapFull
-    else Ok (heap_with h id (object_cut o n) (n - o.length))
-length_put_in h id o _ = Err answer.BadLength
+    else Ok (heap_with h at (object_cut o n) (n - o.length))
+length_stored h at o _ = Err answer.BadLength
 
-abbrev pub length_put_at : HeapView → ℕ → Option ObjectView → Value → Result HeapView HeapAnswer
-length_put_at h id None v = Ok h
-length_put_at h id (Some o) v = length_put_in h id o v
-
--- the cells that a write takes, under a name that is not the length of an array, after so many cells
-abbrev pub write_cost_of : ℕ → ObjectView → List ℕ → Result ℕ HeapAnswer
-write_cost_of cells o name = if nat_lt 100000 (grown_length_of o name) then Err answer.ArrayTooLong
+-- the cells that a property takes under a name that is not the length of an array, after so many cells
+abbrev pub property_cost : ℕ → ObjectView → List ℕ → Result ℕ HeapAnswer
+property_cost cells o name = if nat_lt 100000 (grown_length_of o name) then Err answer.ArrayTooLong
     else if nat_lt 2000000 (cells + put_cost_of o name) then Err answer.HeapFull
     else Ok (put_cost_of o name)
 
--- the heap with the object `after`, at this cost
-abbrev pub written_at : HeapView → ℕ → ObjectView → Result ℕ HeapAnswer → Result HeapView HeapAnswer
-written_at h id after (Ok cost) = Ok (heap_with h id after cost)
-written_at h id after (Err e) = Err e
+-- the heap with the object at this cost, where it isn't refused
+abbrev pub stored_at : HeapView → ℕ → ObjectView → Result ℕ HeapAnswer → Result HeapView HeapAnswer
+stored_at h at o (Ok cost) = Ok (heap_with h at o cost)
+stored_at h at o (Err e) = Err e
 
-abbrev pub put_in : HeapView → ℕ → Option ObjectView → List ℕ → Value → Result HeapView HeapAnswer
-put_in h id None name v = Ok h
-put_in h id (Some o) name v = if is_length o.kind name then length_put_in h id o v else written_at h id (object_after o name v) (write_cost_of h.cells o name)
+abbrev pub stored_in : HeapView → ℕ → Option ObjectView → List ℕ → Value → (Option Property → Property) → Result HeapView HeapAnswer
+stored_in h at None name v new = Ok h
+stored_in h at (Some o) name v new = if is_length o.kind name then length_stored h at o v
+    else stored_at h at (object_with o name (new (property_at o.properties name))) (property_cost h.cells o name)
 
--- a value written under a name of the object
-abbrev pub put_of : HeapView → ObjectId → List ℕ → Value → Result HeapView HeapAnswer
-put_of h object name v = put_in h object.0 (object_at h object) name v
-
-abbrev pub value_property : Value → Bool → Bool → Property
-value_property v listed deletable = record { content = content.Value v; listed = listed; deletable = deletable }
-
-abbrev pub defined_in : HeapView → ℕ → Option ObjectView → List ℕ → Value → Bool → Bool → Result HeapView HeapAnswer
-defined_in h id None name v listed deletable = Ok h
-defined_in h id (Some o) name v listed deletable = if is_length o.kind name then length_put_in h id o v else written_at h id (object_with o name (value_property v listed deletable)) (write_cost_of h.cells o name)
-
--- a property added or replaced, with these marks
-abbrev pub defined_of : HeapView → ObjectId → List ℕ → Value → Bool → Bool → Result HeapView HeapAnswer
-defined_of h object name v listed deletable = defined_in h object.0 (object_at h object) name v listed deletable
+-- a value stored under a name of the object, where `new` gives the new property from the old one
+abbrev pub stored : HeapView → ObjectId → List ℕ → Value → (Option Property → Property) → Result HeapView HeapAnswer
+stored h object name v new = stored_in h object.0 (object_at h object) name v new
 
 -- ---- deleting (8.12.7)
 
@@ -153,21 +145,14 @@ abbrev pub own_keys_in : Option ObjectView → List (List ℕ)
 own_keys_in None = []
 own_keys_in (Some o) = listed_names_of o.properties
 
-abbrev pub keys_behind : (ℕ → List (List ℕ) → List (List ℕ)) → Option ObjectId → List (List ℕ) → List (List ℕ)
-keys_behind rest None names = names
-keys_behind rest (Some p) names = rest p.0 names
+-- behind `names`, those of these objects, one after the other, that are not there yet
+abbrev pub keys_among : HeapView → List ObjectId → List (List ℕ) → List (List ℕ)
+keys_among h [] names = names
+keys_among h (id ∷ ids) names = keys_among h ids (with_names names (own_keys_in (object_at h id)))
 
-abbrev pub keys_in : (ℕ → List (List ℕ) → List (List ℕ)) → Option ObjectView → List (List ℕ) → List (List ℕ)
-keys_in rest None names = names
-keys_in rest (Some o) names = keys_behind rest o.prototype (with_names names (listed_names_of o.properties))
-
-abbrev pub keys_along : ℕ → List ObjectView → ℕ → List (List ℕ) → List (List ℕ)
-keys_along zero objects id names = names
-keys_along (suc left) objects id names = keys_in (λ p ns. keys_along left objects p ns) (slice_get objects id) names
-
--- those of the object, then those of its prototypes that are not there yet
+-- those of the object, then those of its prototypes
 abbrev pub keys_of : HeapView → ObjectId → List (List ℕ)
-keys_of h object = keys_along (suc object.0) h.objects object.0 []
+keys_of h object = keys_among h (line_of h (Some object)) []
 
 -- ---- scopes
 

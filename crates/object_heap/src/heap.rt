@@ -7,6 +7,7 @@ ghost use Rattle.std.specs.Prelude.{
   ◌⊎◌,
   length,
   slice_get,
+  IfSome,
   IfOk,
   IfErr,
   OnOk,
@@ -15,6 +16,7 @@ ghost use Rattle.std.specs.Prelude.{
   ◌∷◌,
   [],
 };
+ghost use Rattle.heap_objects.specs.Object.{property_after, value_property};
 ghost use Rattle.object_heap.specs.Fresh.{fresh_heap, built_in_number};
 ghost use Rattle.object_heap.specs.Heap.{
   object_at,
@@ -24,13 +26,13 @@ ghost use Rattle.object_heap.specs.Heap.{
   length_of,
   found_of,
   own_found_in,
+  is_absent,
   older_of,
   made_of,
   scope_made_of,
-  length_put_at,
-  write_cost_of,
-  put_of,
-  defined_of,
+  stored,
+  length_stored,
+  property_cost,
   deleted_of,
   own_keys_in,
   keys_of,
@@ -40,8 +42,7 @@ ghost use Rattle.object_heap.specs.Heap.{
   text_spent_of,
 };
 
-use crate::fresh::{make_built_ins, number_of};
-use crate::walks::{add_keys_along, find_along};
+use crate::fresh::{make_built_ins, object_of};
 use heap_objects::{NameSet, Object, Scope};
 use heap_values::{BuiltIn, Content, Found, HeapAnswer, Kind, ObjectId, Property, ScopeId, Value};
 use std::alloc::Global;
@@ -69,12 +70,13 @@ pub struct Heap {
 impl Model for Heap {
     ghost use Rattle.std.specs.Prelude.{◌≤◌, ◌+◌, length};
     ghost use Rattle.heap_values.specs.Views.{HeapView};
+    ghost use Rattle.object_heap.specs.Heap.{PrototypesAreOlder};
 
     ghost Value = { HeapView };
 
     ghost view = { λ h. record { objects = h.objects.items; scopes = h.scopes.items; cells = h.cells; units = h.units } };
 
-    ghost invariant = { λ h. (h.cells ≤ 2000000) × (h.units ≤ 16777216) × (length h.objects.items ≤ h.cells + 1000) × (length h.scopes.items ≤ h.cells + 1) };
+    ghost invariant = { λ h. (h.cells ≤ 2000000) × (h.units ≤ 16777216) × (length h.objects.items ≤ h.cells + 1000) × (length h.scopes.items ≤ h.cells + 1) × PrototypesAreOlder h.objects.items };
 }
 
 impl Heap {
@@ -104,7 +106,7 @@ impl Heap {
     pub fn built_in(&self, which: BuiltIn) -> ObjectId
         ensures { result.0 ≡ built_in_number which }
     {
-        ObjectId(number_of(which))
+        object_of(which)
     }
 
     /// What the object is. One that isn't of this heap reads as plain.
@@ -117,9 +119,10 @@ impl Heap {
         }
     }
 
-    /// The object's prototype, which is older. None where it has none.
+    /// The object's prototype, which is older than the object. None where it has none.
     pub fn prototype(&self, object: ObjectId) -> Option<ObjectId>
-        ensures { result ≡ prototype_in (object_at self.now object) }
+        ensures prototype { result ≡ prototype_in (object_at self.now object) }
+        ensures older { IfSome result (λ p. p.0 < object.0) }
     {
         match self.objects.get(object.0 as usize) {
             None => None,
@@ -159,7 +162,15 @@ impl Heap {
     pub fn get(&self, alloc: Global, object: ObjectId, name: &Text) -> Result<Found, Memory>
         ensures { IfOk result (λ found. found ≡ found_of self.now object name.now) }
     {
-        find_along(alloc, &self.objects, object.0, name)
+        let mut next = Some(object);
+        while let Some(id) = next {
+            let found = self.get_own(alloc, id, name)?;
+            if !is_nothing(&found) {
+                return Ok(found);
+            }
+            next = self.prototype(id);
+        }
+        Ok(Found::Absent)
     }
 
     /// What the object itself has under a name (ECMA-262 5.1, section 8.12.1).
@@ -226,8 +237,8 @@ impl Heap {
         name: &Text,
         value: Value,
     ) -> Result<(), HeapAnswer>
-        ensures ok { OnOk result (put_of self.old object name.now value ≡ Ok self.new) }
-        ensures err { IfErr result (λ e. (e ≡ HeapAnswer.Memory) ⊎ (put_of self.old object name.now value ≡ Err e)) }
+        ensures ok { OnOk result (stored self.old object name.now value (property_after value) ≡ Ok self.new) }
+        ensures err { IfErr result (λ e. (e ≡ HeapAnswer.Memory) ⊎ (stored self.old object name.now value (property_after value) ≡ Err e)) }
         ensures unchanged { OnErr result (self.new ≡ self.old) }
     {
         let at = object.0 as usize;
@@ -255,8 +266,8 @@ impl Heap {
         listed: bool,
         deletable: bool,
     ) -> Result<(), HeapAnswer>
-        ensures ok { OnOk result (defined_of self.old object name.now value listed deletable ≡ Ok self.new) }
-        ensures err { IfErr result (λ e. (e ≡ HeapAnswer.Memory) ⊎ (defined_of self.old object name.now value listed deletable ≡ Err e)) }
+        ensures ok { OnOk result (stored self.old object name.now value (λ _. value_property value listed deletable) ≡ Ok self.new) }
+        ensures err { IfErr result (λ e. (e ≡ HeapAnswer.Memory) ⊎ (stored self.old object name.now value (λ _. value_property value listed deletable) ≡ Err e)) }
         ensures unchanged { OnErr result (self.new ≡ self.old) }
     {
         let at = object.0 as usize;
@@ -281,8 +292,8 @@ impl Heap {
     // Sets the length of the array of this number.
     fn put_length(&mut self, alloc: Global, at: usize, value: Value) -> Result<(), HeapAnswer>
         requires { at < length self.old.objects }
-        ensures ok { OnOk result (length_put_at self.old at (slice_get self.old.objects at) value ≡ Ok self.new) }
-        ensures err { IfErr result (λ e. (e ≡ HeapAnswer.Memory) ⊎ (length_put_at self.old at (slice_get self.old.objects at) value ≡ Err e)) }
+        ensures ok { OnOk result (IfSome (slice_get self.old.objects at) (λ o. length_stored self.old at o value ≡ Ok self.new)) }
+        ensures err { IfErr result (λ e. (e ≡ HeapAnswer.Memory) ⊎ IfSome (slice_get self.old.objects at) (λ o. length_stored self.old at o value ≡ Err e)) }
         ensures unchanged { OnErr result (self.new ≡ self.old) }
     {
         let Value::Number(size) = value else {
@@ -327,7 +338,11 @@ impl Heap {
         ensures { IfOk result (λ names. names ≡ keys_of self.now object) }
     {
         let mut names = NameSet::new(alloc);
-        add_keys_along(alloc, &self.objects, object.0, &mut names)?;
+        let mut next = Some(object);
+        while let Some(id) = next {
+            names.add_all(alloc, &self.own_keys(alloc, id)?)?;
+            next = self.prototype(id);
+        }
         Ok(names.into_list())
     }
 
@@ -382,10 +397,16 @@ impl Heap {
     }
 }
 
+fn is_nothing(found: &Found) -> bool
+    ensures { result ≡ is_absent found.now }
+{
+    matches!(found, Found::Absent)
+}
+
 // The cells that a write under a name takes, where neither the array would be too long nor the heap full.
 fn write_cost(cells: u64, object: &Object, name: &Text) -> Result<u64, HeapAnswer>
     requires { cells ≤ 2000000 }
-    ensures cost { result ≡ write_cost_of cells object.now name.now }
+    ensures cost { result ≡ property_cost cells object.now name.now }
     ensures within { IfOk result (λ cost. cells + cost ≤ 2000000) }
 {
     if object.grown_length(name) > LONGEST_ARRAY {

@@ -8,9 +8,6 @@
 mod fresh;
 mod heap;
 mod table;
-mod walks;
 
 pub use heap::Heap;
-
-#[cfg(test)]
-mod tests;
+pub use heap_values::{BuiltIn, Found, HeapAnswer, Kind, ObjectId, ScopeId, Value};

@@ -1,18 +1,8 @@
-// Calls of a heap. What a fresh heap has is this profile's table, over ECMA-262 5.1, section 15.
-use crate::Heap;
-use heap_values::{BuiltIn, Found, HeapAnswer, Kind, ObjectId, Value};
+// Calls of a heap (ECMA-262 5.1, sections 8.12, 10.2, 12.6.4 and 15.4.5.1) with this profile's limits and counts.
+use crate::samples::{joined, number, text, written, written_value};
+use object_heap::{Heap, HeapAnswer, Kind, ObjectId, Value};
 use std::alloc::Global;
 use std::test::Fail;
-use utf16_text::{Text, TextList};
-use whole_number::Whole;
-
-fn text(alloc: Global, units: &str) -> Result<Text, Fail> {
-    Ok(Text::from_str(alloc, units)?)
-}
-
-fn number(value: i64) -> Result<Value, Fail> {
-    Ok(Value::Number(Whole::new(value).ok_or("not whole")?))
-}
 
 fn put(
     alloc: Global,
@@ -25,71 +15,8 @@ fn put(
     Ok(())
 }
 
-// What is found, written as a text.
-fn written(alloc: Global, found: &Found) -> Result<String, Fail> {
-    match found {
-        Found::Absent => Ok(String::from_str(alloc, "absent")?),
-        Found::LeftOut(name) => Ok(format!(in alloc; "left out {}", utf8(alloc, name)?.as_str())?),
-        Found::Value(value) => written_value(alloc, value),
-    }
-}
-
-fn written_value(alloc: Global, value: &Value) -> Result<String, Fail> {
-    match value {
-        Value::Number(number) => Ok(format!(in alloc; "{}", number.get())?),
-        Value::Text(text) => utf8(alloc, text),
-        _ => Ok(String::from_str(alloc, "other")?),
-    }
-}
-
-fn utf8(alloc: Global, text: &Text) -> Result<String, Fail> {
-    let mut bytes = Vec::new(alloc);
-    text.escape_into(alloc, &mut bytes, false)?;
-    let escaped = std::str::from_utf8(bytes.as_slice())?;
-    Ok(String::from_str(alloc, escaped)?)
-}
-
 fn got(alloc: Global, heap: &Heap, object: ObjectId, name: &str) -> Result<String, Fail> {
     written(alloc, &heap.get(alloc, object, &text(alloc, name)?)?)
-}
-
-// The names, each with a comma behind it.
-fn joined(alloc: Global, names: &TextList) -> Result<String, Fail> {
-    let mut all = String::new(alloc);
-    for name in names.as_slice() {
-        all.push_str(utf8(alloc, name)?.as_str())?;
-        all.push(',')?;
-    }
-    Ok(all)
-}
-
-#[rattlefmt::skip]
-const BUILT_INS: &[(BuiltIn, &str, &str)] = &[
-    (BuiltIn::Global, "undefined", "other"),
-    (BuiltIn::Global, "Math", "left out Math"),
-    (BuiltIn::Global, "dnsResolve", "left out dnsResolve"),
-    (BuiltIn::Global, "toString", "left out Object.prototype.toString"),
-    (BuiltIn::Global, "nothing", "absent"),
-    (BuiltIn::ArrayPrototype, "sort", "left out Array.prototype.sort"),
-    (BuiltIn::ArrayPrototype, "length", "0"),
-    (BuiltIn::TextPrototype, "constructor", "left out String"),
-    (BuiltIn::RangeErrorPrototype, "name", "RangeError"),
-    (BuiltIn::RangeErrorPrototype, "message", ""),
-    (BuiltIn::RangeErrorPrototype, "toString", "left out Error.prototype.toString"),
-];
-
-#[test]
-fn a_fresh_heap_has_the_built_in_objects(rt: HostRuntime) -> Result<(), Fail> {
-    let alloc = rt.alloc();
-    let heap = Heap::new(alloc)?;
-    for (holder, name, wanted) in BUILT_INS {
-        let found = got(alloc, &heap, heap.built_in(*holder), name)?;
-        assert_eq!(rt; found.as_str(), *wanted, "{name}");
-    }
-    assert_eq!(rt; heap.cells(), 0);
-    assert_eq!(rt; heap.parent(heap.outer()), None);
-    assert_eq!(rt; heap.keys(alloc, heap.built_in(BuiltIn::Global))?.len(), 0);
-    Ok(())
 }
 
 #[test]
@@ -118,12 +45,45 @@ fn names_are_listed_in_order_after_a_deletion(rt: HostRuntime) -> Result<(), Fai
     Ok(())
 }
 
+// Twelve names, so that an object's few properties become many on the way, and nine deletions, so that the gaps that
+// they leave are closed.
+const NAMES: [&str; 12] = ["b", "10", "a", "9", "z", "y", "2", "x", "w", "v", "u", "t"];
+
+#[test]
+fn many_names_keep_their_order(rt: HostRuntime) -> Result<(), Fail> {
+    let alloc = rt.alloc();
+    let mut heap = Heap::new(alloc)?;
+    let object = heap.make(alloc, Kind::Plain, None)?;
+    for name in NAMES {
+        put(alloc, &mut heap, object, name, 1)?;
+    }
+    assert_eq!(rt;
+        joined(alloc, &heap.keys(alloc, object)?)?.as_str(),
+        "2,9,10,b,a,z,y,x,w,v,u,t,"
+    );
+    for (at, name) in NAMES.iter().enumerate() {
+        assert_eq!(rt; heap.delete(object, &text(alloc, name)?), true, "at {at}");
+        if at % 4 == 3 {
+            put(alloc, &mut heap, object, name, 2)?;
+        }
+    }
+    put(alloc, &mut heap, object, "b", 3)?;
+    assert_eq!(rt;
+        joined(alloc, &heap.own_keys(alloc, object)?)?.as_str(),
+        "9,x,t,b,"
+    );
+    assert_eq!(rt; got(alloc, &heap, object, "x")?.as_str(), "2");
+    assert_eq!(rt; got(alloc, &heap, object, "z")?.as_str(), "absent");
+    Ok(())
+}
+
 #[test]
 fn a_write_stays_in_the_object(rt: HostRuntime) -> Result<(), Fail> {
     let alloc = rt.alloc();
     let mut heap = Heap::new(alloc)?;
     let behind = heap.make(alloc, Kind::Plain, None)?;
     let object = heap.make(alloc, Kind::Plain, Some(behind))?;
+    assert_eq!(rt; heap.prototype(object), Some(behind));
     put(alloc, &mut heap, behind, "a", 1)?;
     assert_eq!(rt; got(alloc, &heap, object, "a")?.as_str(), "1");
     put(alloc, &mut heap, object, "a", 2)?;
@@ -160,6 +120,10 @@ fn a_refused_write_changes_nothing(rt: HostRuntime) -> Result<(), Fail> {
     assert_eq!(rt; heap.length(array), 1);
     assert_eq!(rt; heap.cells(), 3);
     assert_eq!(rt; joined(alloc, &heap.keys(alloc, array)?)?.as_str(), "0,");
+    put(alloc, &mut heap, array, "4", 8)?;
+    heap.put(alloc, array, &length, number(4)?)?;
+    assert_eq!(rt; joined(alloc, &heap.keys(alloc, array)?)?.as_str(), "0,");
+    assert!(rt; !heap.delete(array, &length));
     Ok(())
 }
 
@@ -185,7 +149,7 @@ fn limits_stop_texts_and_scopes(rt: HostRuntime) -> Result<(), Fail> {
     );
     assert_eq!(rt;
         written_value(alloc, &heap.read_slot(alloc, scope, 1)?)?.as_str(),
-        "other"
+        "undefined"
     );
     assert_eq!(rt; heap.cells(), 2);
     Ok(())

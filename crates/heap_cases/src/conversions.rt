@@ -1,11 +1,11 @@
 // Worked values. Their source is ECMA-262 5.1, sections 9.2 to 9.8 and 11.5 to 11.10, and this profile's refusals.
-use crate::{
-    BinaryOp, ConvertAnswer, Numeric, binary, less, loose_equals, strict_equals, to_boolean,
-    to_number, to_text,
-};
 use Sample::{Null, Number, Object, Text as Written, Truth, Undefined};
 use Wanted::{Fault, Is};
 use heap_values::{ObjectId, Value};
+use js_convert::{
+    BinaryOp, ConvertAnswer, Numeric, binary, less, loose_equals, strict_equals, to_boolean,
+    to_number, to_text,
+};
 use std::alloc::Global;
 use std::test::Fail;
 use utf16_text::Text;
