@@ -5,8 +5,9 @@ ghost use Rattle.js_grammar.specs.Readers.{Reader, row, Shortens};
 
 use crate::reading::Read;
 use js_grammar::Turn;
-use js_tree::{Token, TreeList};
+use js_tree::Token;
 use std::alloc::Global;
+use utf16_text::List;
 
 /// The parts that turns give one after another, up to the last. It is the row of any reader that the turns read by. The
 /// first refusal of a turn ends it, and so does want of memory.
@@ -14,14 +15,14 @@ pub fn row<'a, T: Drop, F: Fn(&'a [Token]) -> Read<'a, Turn<T>>>(
     alloc: Global,
     tokens: &'a [Token],
     turn: F,
-) -> Read<'a, TreeList<T>>
+) -> Read<'a, List<T>>
     requires callable { F.IsAlwaysCallable turn }
     requires shortens { (before : _) (given : _) → F.post turn before given → IfOk given (λ x. Shortens x.0 before.now x.1.now) }
     ensures gives { (reader : Reader (Turn T)) → ((before : _) (given : _) → F.post turn before given → Gives (λ x. (x.0, x.1.now)) given (reader before.now)) → Gives (λ x. (x.0, x.1.now)) result (row reader tokens.now) }
     ensures no_longer { IfOk result (λ x. length x.1.now ≤ length tokens.now) }
     ensures shorter { ((before : _) (given : _) → F.post turn before given → IfOk given (λ x. length x.1.now < length before.now)) → IfOk result (λ x. length x.1.now < length tokens.now) }
 {
-    let mut all = TreeList::new(alloc);
+    let mut all = List::new(alloc);
     let mut rest = tokens;
     loop {
         let (one, after) = turn(rest)?;
