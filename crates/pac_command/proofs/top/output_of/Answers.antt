@@ -1,4 +1,4 @@
-use Rattle.pac_command.proofs.top.answer_to.Goals as goal
+use Rattle.pac_command.proofs.top.output_of.Goals as goal
 
 pub returns-in-Some-Resolve : goal.returns-in-Some-Resolve
 returns-in-Some-Resolve g c = λ o. rw (← c.read_words.ensures, c.in-Some-Resolve.is, c.in-Some-Resolve.field-0-is) (c.resolve.ensures o)

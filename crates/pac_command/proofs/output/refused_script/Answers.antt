@@ -2,7 +2,7 @@ use Rattle.std.proofs.Common.{◌∙◌, ◌++◌, ◌∷◌, [], append_assoc, 
 use Rattle.std.specs.Prelude.{codes}
 use Rattle.pac_plan.specs.declared.status.Status.TheVariants.{Refused}
 use Rattle.pac_command.specs.Scripts as scripts
-use Rattle.pac_command.proofs.answer.refused_script.Goals as goal
+use Rattle.pac_command.proofs.output.refused_script.Goals as goal
 
 pub returns : goal.returns
 returns c =

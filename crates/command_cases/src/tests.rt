@@ -1,6 +1,7 @@
+// Words, files and sinks, with the status and what is written.
 ghost use Rattle.std.specs.Prelude.{◌≡◌, ◌<◌, None};
 
-use crate::{Status, pac};
+use pac_command::{Status, pac};
 use pac_ports::{ClosedLink, Failed, FixedClock, ListDice, MemoryFiles, MemorySink, Sink};
 use std::alloc::Global;
 use std::marker::Brand;
@@ -60,7 +61,7 @@ fn called<K: Sink, L: Ledger>(
 }
 
 // The same for words parted by blanks.
-fn answer<K: Sink>(
+fn status_of<K: Sink>(
     alloc: Global,
     line: &str,
     files: &mut MemoryFiles,
@@ -188,7 +189,7 @@ fn each_answer_comes_with_its_text(rt: HostRuntime) -> Result<(), Fail> {
         let mut files = MemoryFiles::new(alloc);
         files.add(alloc, "s.pac", script.as_bytes())?;
         let mut out = MemorySink::new(alloc, 1000)?;
-        let found = answer(alloc, words, &mut files, &mut out)?;
+        let found = status_of(alloc, words, &mut files, &mut out)?;
         assert_eq!(rt; found, status, "{words}");
         assert_eq!(rt; out.bytes(), text.as_bytes(), "{words}");
     }
@@ -210,7 +211,7 @@ fn brackets_nest_up_to_the_limit(rt: HostRuntime) -> Result<(), Fail> {
         let mut files = MemoryFiles::new(alloc);
         files.add(alloc, "s.pac", &script)?;
         let mut out = MemorySink::new(alloc, 100)?;
-        let found = answer(alloc, "check s.pac", &mut files, &mut out)?;
+        let found = status_of(alloc, "check s.pac", &mut files, &mut out)?;
         assert_eq!(rt; found, status);
         assert_eq!(rt; out.bytes(), text.as_bytes());
     }
@@ -231,7 +232,7 @@ fn a_script_over_the_limit_is_refused(rt: HostRuntime) -> Result<(), Fail> {
         files.add(alloc, "s.pac", &vec![in alloc; b' '; length]?)?;
         let mut out = MemorySink::new(alloc, 100)?;
         assert_eq!(rt;
-            answer(alloc, words, &mut files, &mut out)?,
+            status_of(alloc, words, &mut files, &mut out)?,
             Status::Refused
         );
         assert_eq!(rt; out.bytes(), text.as_bytes());
@@ -248,7 +249,7 @@ fn a_fault_stands_in_the_place_of_the_answer(rt: HostRuntime) -> Result<(), Fail
     let mut out = MemorySink::new(alloc, 100)?;
     out.fail_at(alloc, 1)?;
     assert_eq!(rt;
-        answer(alloc, words, &mut files, &mut out)?,
+        status_of(alloc, words, &mut files, &mut out)?,
         Status::WriteFault
     );
     assert_eq!(rt; out.bytes(), b"".as_slice());
@@ -260,12 +261,12 @@ fn a_fault_stands_in_the_place_of_the_answer(rt: HostRuntime) -> Result<(), Fail
         faults: 0,
     };
     assert_eq!(rt;
-        answer(alloc, words, &mut files, &mut narrow)?,
+        status_of(alloc, words, &mut files, &mut narrow)?,
         Status::WriteFault
     );
     assert_eq!(rt; narrow.bytes.as_slice(), b"url 1 ht".as_slice());
     files.fail_at(alloc, 3)?;
-    let found = answer(alloc, words, &mut files, &mut out)?;
+    let found = status_of(alloc, words, &mut files, &mut out)?;
     assert_eq!(rt; found, Status::ReadFault);
     assert_eq!(rt; out.bytes(), b"fault read script\n".as_slice());
     Ok(())
