@@ -33,12 +33,12 @@ is_path [] = false
 is_path (u ∷ units) = nat_eq u 47 && list_all is_path_unit units
 
 -- the host at the front, where it is one and a path follows
-abbrev pub host_before : List ℕ → List ℕ → Option (List ℕ)
-host_before host path = if is_host host && is_path path then Some host else None
+abbrev pub followed_host : List ℕ → List ℕ → Option (List ℕ)
+followed_host host path = if is_host host && is_path path then Some host else None
 
-abbrev pub host_at : List ℕ → Option (List ℕ)
-host_at units = host_before (take (prefix_len is_host_unit units) units) (drop (prefix_len is_host_unit units) units)
+abbrev pub front_host : List ℕ → Option (List ℕ)
+front_host units = followed_host (take (prefix_len is_host_unit units) units) (drop (prefix_len is_host_unit units) units)
 
 -- the host of a URL of the first form
 abbrev pub first_host_of : List ℕ → Option (List ℕ)
-first_host_of units = if nat_le (length units) 8192 && starts_with nat_eq units (codes "http://") then host_at (drop 7 units) else None
+first_host_of units = if nat_le (length units) 8192 && starts_with nat_eq units (codes "http://") then front_host (drop 7 units) else None

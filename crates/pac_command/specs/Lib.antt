@@ -1,8 +1,10 @@
 pub mod Words
 pub mod CommandView
-pub mod FirstUrl
+pub mod Plans
 pub mod Scripts
-pub mod Check
-pub mod Resolve
-pub mod AnswerView
+pub mod FirstUrl
 pub mod UrlView
+pub mod Resolve
+pub mod Check
+pub mod Commands
+pub mod OutputView

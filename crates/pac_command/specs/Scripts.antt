@@ -5,10 +5,10 @@ use Rattle.js_tree.specs.declared.place.Place.{Place}
 use Rattle.js_tree.specs.declared.refusal.ReadKind.{ReadKind}
 use Rattle.js_tree.specs.declared.refusal.ReadKind.TheVariants as kind
 use Rattle.js_grammar.specs.Reading.{Refusal}
-use Rattle.pac_plan.specs.Plan.{Answer, line}
+use Rattle.pac_plan.specs.Plan.{Output, line}
 use Rattle.pac_plan.specs.declared.status.Status.TheVariants as status
 
-abbrev pub refused : List ℕ → Answer
+abbrev pub refused : List ℕ → Output
 refused what = record { status = status.Refused; text = line (codes "refused " ++ what) }
 
 abbrev pub kind_name : ReadKind → List ℕ
@@ -23,5 +23,5 @@ abbrev pub place_text : Place → List ℕ
 place_text place = decimal place.line ++ 58 ∷ decimal place.column
 
 -- the place of the first refusal, a blank (32) and its name
-abbrev pub refused_script : Refusal → Answer
+abbrev pub refused_script : Refusal → Output
 refused_script refusal = refused (codes "script " ++ (place_text refusal.1 ++ 32 ∷ kind_name refusal.0))

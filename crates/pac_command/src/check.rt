@@ -3,13 +3,13 @@ ghost use Rattle.std.specs.Prelude.{◌≤◌, length, Ok};
 ghost use Rattle.utf16_text.specs.Decode.{decoded_units};
 ghost use Rattle.js_grammar.specs.Statements.{script_of_text};
 ghost use Rattle.pac_plan.specs.Plan.{Outside};
-ghost use Rattle.pac_plan.specs.Follows.{Follows, IsUnlessMemory};
-ghost use Rattle.pac_command.specs.Resolve.{no_talks};
+ghost use Rattle.pac_plan.specs.Follows.{IsUnlessMemory};
+ghost use Rattle.pac_command.specs.Plans.{Follows};
 ghost use Rattle.pac_command.specs.Check.{check_plan, checked};
-ghost use Rattle.pac_command.specs.AnswerView.{made};
+ghost use Rattle.pac_command.specs.OutputView.{made};
 
 use crate::Status;
-use crate::answer::{Answer, not_read, refused_script};
+use crate::output::{Output, not_read, refused_script};
 use crate::script::{FILE_LIMIT, decoded};
 use js_parser::read_script;
 use js_printer::print;
@@ -19,8 +19,8 @@ use std::alloc::Global;
 use utf16_text::Memory;
 
 /// Reads the script and prints it.
-pub(crate) fn check<F: Files>(alloc: Global, script: &str, files: &mut F) -> Result<Answer, Memory>
-    ensures { (o : Outside) → Follows no_talks (check_plan script.now)
+pub(crate) fn check<F: Files>(alloc: Global, script: &str, files: &mut F) -> Result<Output, Memory>
+    ensures { (o : Outside) → Follows (check_plan script.now)
         (record o { files = F.state files.old }) (record o { files = F.state files.new }) (made result) }
 {
     match files.read_all(alloc, script, FILE_LIMIT) {
@@ -29,7 +29,7 @@ pub(crate) fn check<F: Files>(alloc: Global, script: &str, files: &mut F) -> Res
     }
 }
 
-fn check_file(alloc: Global, bytes: &[u8]) -> Result<Answer, Memory>
+fn check_file(alloc: Global, bytes: &[u8]) -> Result<Output, Memory>
     requires { length bytes.now ≤ 1048576 }
     ensures { IsUnlessMemory (checked (script_of_text (decoded_units bytes.now))) (made result) }
 {
@@ -41,11 +41,11 @@ fn check_file(alloc: Global, bytes: &[u8]) -> Result<Answer, Memory>
     }
 }
 
-fn printed(alloc: Global, script: &Script) -> Result<Answer, Memory>
+fn printed(alloc: Global, script: &Script) -> Result<Output, Memory>
     ensures { IsUnlessMemory (checked (Ok script.now)) (made result) }
 {
     let text = print(alloc, script)?;
-    Ok(Answer {
+    Ok(Output {
         status: Status::Good,
         text,
     })

@@ -38,13 +38,13 @@ fn host_of(units: &[u16]) -> Option<&[u16]>
         return None;
     }
     match units {
-        [104, 116, 116, 112, 58, 47, 47, rest @ ..] => host_at(rest),
+        [104, 116, 116, 112, 58, 47, 47, rest @ ..] => front_host(rest),
         _ => None,
     }
 }
 
-fn host_at(units: &[u16]) -> Option<&[u16]>
-    ensures { option_map (λ host. host.now) result ≡ form.host_at units.now }
+fn front_host(units: &[u16]) -> Option<&[u16]>
+    ensures { option_map (λ host. host.now) result ≡ form.front_host units.now }
 {
     let (host, path) = units.split_at(host_len(units));
     if is_host(host) && is_path(path) {

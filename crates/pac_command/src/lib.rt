@@ -4,9 +4,9 @@
 //! the outside, on js_parser and js_printer for scripts, on js_interp for their runs, and on utf16_text.
 #![tactic(auto)]
 
-mod answer;
 mod check;
 mod first_url;
+mod output;
 mod resolve;
 mod script;
 mod top;
@@ -14,6 +14,3 @@ mod words;
 
 pub use pac_plan::Status;
 pub use top::pac;
-
-#[cfg(test)]
-mod tests;

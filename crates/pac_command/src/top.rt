@@ -1,15 +1,15 @@
 // The top call.
 ghost use Rattle.std.specs.Prelude.{Some, map, string_bytes};
 ghost use Rattle.pac_plan.specs.Plan.{Outside};
-ghost use Rattle.pac_plan.specs.Follows.{FollowsProgram, Gives};
-ghost use Rattle.pac_plan.specs.Serves.{Serves};
+ghost use Rattle.pac_plan.specs.Follows.{Gives};
 ghost use Rattle.pac_command.specs.Words.{command_of};
-ghost use Rattle.pac_command.specs.Resolve.{no_talks, program_of};
-ghost use Rattle.pac_command.specs.AnswerView.{answer_view, made};
+ghost use Rattle.pac_command.specs.Plans.{FollowsProgram, Serves};
+ghost use Rattle.pac_command.specs.Commands.{program_of};
+ghost use Rattle.pac_command.specs.OutputView.{output_view, made};
 
 use crate::Status;
-use crate::answer::{Answer, line};
 use crate::check::check;
+use crate::output::{Output, line};
 use crate::resolve::resolve;
 use crate::words::{Command, read_words};
 use pac_ports::{Clock, Dice, Files, Link, Sink, put};
@@ -18,7 +18,7 @@ use std::sync::ledger::Ledger;
 use step_counter::Steps;
 use utf16_text::Memory;
 
-/// Does what the words after the program's name ask for, writes the answer to `out` and returns its status.
+/// Does what the words after the program's name ask for, writes the output to `out` and returns its status.
 ///
 /// `runs` counts the runs of the script. The link, the clock and the dice aren't touched by any command yet.
 #[allow(clippy::too_many_arguments)]
@@ -32,26 +32,26 @@ pub fn pac<F: Files, K: Sink, N: Link, C: Clock, D: Dice, L: Ledger>(
     dice: &mut D,
     runs: &mut Steps<L>,
 ) -> Status
-    // The plan of the words is followed and its answer written, with the order and completeness of every plan.
-    ensures { Serves no_talks (program_of (command_of (map string_bytes words.now.items)))
+    // The plan of the words is followed and its output written, with the order and completeness of every plan.
+    ensures { Serves (program_of (command_of (map string_bytes words.now.items)))
         (record { files = F.state files.old; link = N.state link.old; clock = C.told clock.old; dice = D.told dice.old; runs = runs.old })
         (record { files = F.state files.new; link = N.state link.new; clock = C.told clock.new; dice = D.told dice.new; runs = runs.new })
         (K.state out.old) (K.state out.new) result }
 {
-    match answer_to(alloc, words, files, runs) {
-        Ok(answer) => give(out, &answer),
+    match output_of(alloc, words, files, runs) {
+        Ok(output) => give(out, &output),
         Err(_) => Status::Memory,
     }
 }
 
 // What the words and the files come to.
-fn answer_to<F: Files, L: Ledger>(
+fn output_of<F: Files, L: Ledger>(
     alloc: Global,
     words: &[String],
     files: &mut F,
     runs: &mut Steps<L>,
-) -> Result<Answer, Memory>
-    ensures { (o : Outside) → FollowsProgram no_talks (program_of (command_of (map string_bytes words.now)))
+) -> Result<Output, Memory>
+    ensures { (o : Outside) → FollowsProgram (program_of (command_of (map string_bytes words.now)))
         (record o { files = F.state files.old; runs = runs.old })
         (record o { files = F.state files.new; runs = runs.new }) (made result) }
 {
@@ -68,12 +68,12 @@ fn answer_to<F: Files, L: Ledger>(
     }
 }
 
-// Writes the answer.
-fn give<K: Sink>(out: &mut K, answer: &Answer) -> Status
-    ensures { Gives (Some (answer_view answer.now)) result (K.state out.old) (K.state out.new) }
+// Writes the output.
+fn give<K: Sink>(out: &mut K, output: &Output) -> Status
+    ensures { Gives (Some (output_view output.now)) result (K.state out.old) (K.state out.new) }
 {
-    match put(out, &answer.text) {
-        Ok(()) => answer.status,
+    match put(out, &output.text) {
+        Ok(()) => output.status,
         Err(_) => Status::WriteFault,
     }
 }

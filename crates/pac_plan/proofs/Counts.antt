@@ -6,7 +6,7 @@ use Rattle.pac_ports.specs.Link.{has_move}
 use Rattle.pac_ports.specs.declared.files.FilesAnswer.{FilesAnswer}
 use Rattle.pac_ports.specs.declared.files.FilesAnswer.TheVariants as why
 use Rattle.pac_ports.specs.declared.link.Move.{Move}
-use Rattle.pac_plan.specs.Plan.{Answer, Plan, say, run, read, talk, Outside, End, whole, faulted, unfinished, Talks, CountsFaults, file_limit, read_fault, link_fault}
+use Rattle.pac_plan.specs.Plan.{Output, Plan, say, run, read, talk, Outside, End, whole, faulted, unfinished, Talks, CountsFaults, file_limit, read_fault, link_fault}
 use Rattle.pac_plan.specs.Follows.{IsUnlessMemory, GoesOn, TalkSays, Follows}
 use Rattle.pac_plan.specs.Complete.{IsSureOfNames}
 
@@ -16,7 +16,7 @@ pub record IsQuiet (old new : Outside) : Type 0 where
   pub link : new.link.faults ≡ old.link.faults
 
 -- a file failed, of whose name the files weren't sure
-pub record FileFailed {T : Type 0} (plan : Plan T) (old new : Outside) (made : Option Answer) : Type 0 where
+pub record FileFailed {T : Type 0} (plan : Plan T) (old new : Outside) (made : Option Output) : Type 0 where
   pub kind : List ℕ
   pub says : IsUnlessMemory (read_fault kind) made
   pub rose : Rose old.files.faults new.files.faults
@@ -24,27 +24,27 @@ pub record FileFailed {T : Type 0} (plan : Plan T) (old new : Outside) (made : O
   pub not_sure : IsSureOfNames old.files.sure plan → ⊥
 
 -- the link failed, outside of what it was sure of
-pub record LinkFailed (old new : Outside) (made : Option Answer) : Type 0 where
+pub record LinkFailed (old new : Outside) (made : Option Output) : Type 0 where
   pub says : IsUnlessMemory link_fault made
   pub files : new.files.faults ≡ old.files.faults
   pub rose : Rose old.link.faults new.link.faults
   pub no_move : has_move new.link ≡ false
 
-abbrev pub Counted : {T : Type 0} → Plan T → Outside → Outside → Option Answer → Type 0
+abbrev pub Counted : {T : Type 0} → Plan T → Outside → Outside → Option Output → Type 0
 Counted plan old new made = IsQuiet old new ⊎ (FileFailed plan old new made ⊎ LinkFailed old new made)
 
-stood : {T : Type 0} (plan : Plan T) (old new : Outside) (made : Option Answer) → new ≡ old → Counted plan old new made
+stood : {T : Type 0} (plan : Plan T) (old new : Outside) (made : Option Output) → new ≡ old → Counted plan old new made
 stood plan old new made is = inl (record { files = ap (λ (o : Outside). o.files.faults) is; link = ap (λ (o : Outside). o.link.faults) is })
 
 -- a read that leaves the count, and then the rest
-after_read : {T : Type 0} (kind name bytes : List ℕ) (next : List ℕ → Plan T) (old new : Outside) (made : Option Answer) (failed : Bool)
+after_read : {T : Type 0} (kind name bytes : List ℕ) (next : List ℕ → Plan T) (old new : Outside) (made : Option Output) (failed : Bool)
     → Counted (next bytes) (record old { files = with_read name failed old.files }) new made → Counted (read kind name next) old new made
 after_read kind name bytes next old new made failed (inl quiet) = inl (record { files = quiet.files; link = quiet.link })
 after_read kind name bytes next old new made failed (inr (inl file)) =
     inr (inl (record { kind = file.kind; says = file.says; rose = file.rose; link = file.link; not_sure = λ sure. file.not_sure (sure.1 bytes) }))
 after_read kind name bytes next old new made failed (inr (inr link)) = inr (inr (record { says = link.says; files = link.files; rose = link.rose; no_move = link.no_move }))
 
-counted_read : {T : Type 0} (K : Talks T) (kind name : List ℕ) (next : List ℕ → Plan T) (old new : Outside) (made : Option Answer) (found : Result (List ℕ) FilesAnswer) (files : FilesState)
+counted_read : {T : Type 0} (K : Talks T) (kind name : List ℕ) (next : List ℕ → Plan T) (old new : Outside) (made : Option Output) (found : Result (List ℕ) FilesAnswer) (files : FilesState)
     → ((bytes : List ℕ) (mid : Outside) → Follows K (next bytes) mid new made → Counted (next bytes) mid new made)
     → HasRead old.files name file_limit found files
     → GoesOn kind found (λ bytes mid. Follows K (next bytes) mid new made) (record old { files = files }) new made
@@ -69,20 +69,20 @@ counted_read K kind name next old new made (Err why.Memory) files rest h goes = 
   link = ap (λ (o : Outside). o.link.faults) goes.0;
 })
 
-after_run : {T : Type 0} (plan : Plan T) (old new : Outside) (made : Option Answer) → Counted plan (record old { runs = old.runs + 1 }) new made → Counted (run plan) old new made
+after_run : {T : Type 0} (plan : Plan T) (old new : Outside) (made : Option Output) → Counted plan (record old { runs = old.runs + 1 }) new made → Counted (run plan) old new made
 after_run plan old new made (inl quiet) = inl (record { files = quiet.files; link = quiet.link })
 after_run plan old new made (inr (inl file)) =
     inr (inl (record { kind = file.kind; says = file.says; rose = file.rose; link = file.link; not_sure = file.not_sure }))
 after_run plan old new made (inr (inr link)) = inr (inr (record { says = link.says; files = link.files; rose = link.rose; no_move = link.no_move }))
 
-counted_talk : {T : Type 0} (K : Talks T) (t : T) (answer : List Move → Answer) (old new : Outside) (made : Option Answer) (end : End) (log : List Move)
+counted_talk : {T : Type 0} (K : Talks T) (t : T) (answer : List Move → Output) (old new : Outside) (made : Option Output) (end : End) (log : List Move)
     → new.files ≡ old.files → CountsFaults end old.link new.link → TalkSays end (answer log) made → Counted (talk t answer) old new made
 counted_talk K t answer old new made whole log files counts says = inl (record { files = ap (λ (f : FilesState). f.faults) files; link = counts })
 counted_talk K t answer old new made faulted log files counts says =
     inr (inr (record { says = says; files = ap (λ (f : FilesState). f.faults) files; rose = counts.0; no_move = counts.1 }))
 counted_talk K t answer old new made unfinished log files counts says = inl (record { files = ap (λ (f : FilesState). f.faults) files; link = counts })
 
-pub counted : {T : Type 0} (K : Talks T) (plan : Plan T) (old new : Outside) (made : Option Answer) → Follows K plan old new made → Counted plan old new made
+pub counted : {T : Type 0} (K : Talks T) (plan : Plan T) (old new : Outside) (made : Option Output) → Follows K plan old new made → Counted plan old new made
 counted K (say answer) old new made h = stood (say answer) old new made h.0
 counted K (run plan) old new made (inl h) = after_run plan old new made (counted K plan (record old { runs = old.runs + 1 }) new made h)
 counted K (run plan) old new made (inr h) = stood (run plan) old new made h.0

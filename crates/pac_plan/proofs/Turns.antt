@@ -3,7 +3,7 @@ use Rattle.std.proofs.Common.{◌≡◌, ℕ, ◌+◌, true, false, List, [], �
 use Rattle.pac_ports.specs.Files.{FilesState, FilesTold, Read, content_of, with_read, HasRead}
 use Rattle.pac_ports.specs.declared.files.FilesAnswer.{FilesAnswer}
 use Rattle.pac_ports.specs.declared.files.FilesAnswer.TheVariants as why
-use Rattle.pac_plan.specs.Plan.{Answer, Plan, say, run, read, talk, Outside, Talks, file_limit}
+use Rattle.pac_plan.specs.Plan.{Output, Plan, say, run, read, talk, Outside, Talks, file_limit}
 use Rattle.pac_plan.specs.Follows.{GoesOn, Follows}
 use Rattle.pac_plan.specs.Order.{names_at, FailsAtTheLast, ReadsInTurn}
 use Rattle.pac_plan.proofs.Completes.{choice_read}
@@ -46,7 +46,7 @@ told_after files told name failed is = ap (option_map {T = FilesTold} (λ t. rec
 content_read : (files : Option FilesTold) (told : FilesTold) (name bytes : List ℕ) → files ≡ Some told → IfSome files (λ f. content_of name f.contents ≡ Some bytes) → content_of name told.contents ≡ Some bytes
 content_read files told name bytes is h = subst (λ (o : Option FilesTold). IfSome o (λ f. content_of name f.contents ≡ Some bytes)) is h
 
-read_turn : {T : Type 0} (K : Talks T) (kind name : List ℕ) (next : List ℕ → Plan T) (old new : Outside) (made : Option Answer) (told : FilesTold) (found : Result (List ℕ) FilesAnswer) (files : FilesState)
+read_turn : {T : Type 0} (K : Talks T) (kind name : List ℕ) (next : List ℕ → Plan T) (old new : Outside) (made : Option Output) (told : FilesTold) (found : Result (List ℕ) FilesAnswer) (files : FilesState)
     → ((bytes : List ℕ) (mid : Outside) (now : FilesTold) → mid.files.told ≡ Some now → Follows K (next bytes) mid new made → ReadsInTurn (names_at (next bytes) now.contents) now new.files.told)
     → old.files.told ≡ Some told → HasRead old.files name file_limit found files
     → GoesOn kind found (λ bytes mid. Follows K (next bytes) mid new made) (record old { files = files }) new made
@@ -65,7 +65,7 @@ read_turn K kind name next old new made told (Err why.TooLong) files rest is h g
 read_turn K kind name next old new made told (Err why.Memory) files rest is h goes =
     none_more _ told new.files.told (ap (λ (o : Outside). o.files.told) goes.0 ∙ ap (λ (f : FilesState). f.told) h ∙ is)
 
-pub reads_in_turn : {T : Type 0} (K : Talks T) (plan : Plan T) (old new : Outside) (made : Option Answer) (told : FilesTold) → old.files.told ≡ Some told
+pub reads_in_turn : {T : Type 0} (K : Talks T) (plan : Plan T) (old new : Outside) (made : Option Output) (told : FilesTold) → old.files.told ≡ Some told
     → Follows K plan old new made → ReadsInTurn (names_at plan told.contents) told new.files.told
 reads_in_turn K (say answer) old new made told is h = none_more [] told new.files.told (ap (λ (o : Outside). o.files.told) h.0 ∙ is)
 reads_in_turn K (run plan) old new made told is (inl h) = reads_in_turn K plan (record old { runs = old.runs + 1 }) new made told is h

@@ -5,7 +5,7 @@ use Rattle.pac_ports.specs.Files.{FilesTold, content_of, is_listed, with_read}
 use Rattle.pac_ports.specs.Link.{has_move}
 use Rattle.pac_ports.specs.Sink.{SinkState, with_bytes, has_room}
 use Rattle.pac_ports.specs.declared.link.Move.{Move}
-use Rattle.pac_plan.specs.Plan.{Answer, Plan, say, run, read, talk, Outside, whole, Talks, file_limit, read_fault, too_long}
+use Rattle.pac_plan.specs.Plan.{Output, Plan, say, run, read, talk, Outside, whole, Talks, file_limit, read_fault, too_long}
 use Rattle.pac_plan.specs.declared.status.Status.{Status}
 use Rattle.pac_plan.specs.declared.status.Status.TheVariants as status
 
@@ -19,11 +19,11 @@ by_content absent long next None = absent
 by_content absent long next (Some bytes) = if nat_le (length bytes) file_limit then next bytes else long
 
 -- the answer, where the talk has this log
-abbrev pub answer_at : {T : Type 0} → Plan T → Contents → List Move → Answer
-answer_at (say answer) c log = answer
-answer_at (run plan) c log = answer_at plan c log
-answer_at (read kind name next) c log = by_content (read_fault kind) (too_long kind) (λ bytes. answer_at (next bytes) c log) (content_of name c)
-answer_at (talk t answer) c log = answer log
+abbrev pub output_at : {T : Type 0} → Plan T → Contents → List Move → Output
+output_at (say answer) c log = answer
+output_at (run plan) c log = output_at plan c log
+output_at (read kind name next) c log = by_content (read_fault kind) (too_long kind) (λ bytes. output_at (next bytes) c log) (content_of name c)
+output_at (talk t answer) c log = answer log
 
 -- the talk that it comes to
 abbrev pub talk_at : {T : Type 0} → Plan T → Contents → Option T
@@ -37,14 +37,14 @@ abbrev pub with_run : Outside → Outside
 with_run o = record o { runs = o.runs + 1 }
 
 -- with one read more
-abbrev pub with_read_of : List ℕ → Bool → Outside → Outside
-with_read_of name failed o = record o { files = with_read name failed o.files }
+abbrev pub with_file_read : List ℕ → Bool → Outside → Outside
+with_file_read name failed o = record o { files = with_read name failed o.files }
 
 -- the outside after the reads and runs before the talk
 abbrev pub reached : {T : Type 0} → Plan T → Contents → Outside → Outside
 reached (say answer) c o = o
 reached (run plan) c o = reached plan c (with_run o)
-reached (read kind name next) c o = by_content (with_read_of name true o) (with_read_of name false o) (λ bytes. reached (next bytes) c (with_read_of name false o)) (content_of name c)
+reached (read kind name next) c o = by_content (with_file_read name true o) (with_file_read name false o) (λ bytes. reached (next bytes) c (with_file_read name false o)) (content_of name c)
 reached (talk t answer) c o = o
 
 -- the talk went to its end, or there is none and nothing else was done
@@ -56,8 +56,8 @@ Arrives K (Some t) mid log new = K.Talked t mid whole log new
 pub record Completed {T : Type 0} (K : Talks T) (plan : Plan T) (c : Contents) (old new : Outside) (out out' : SinkState) (given : Status) : Type 0 where
   pub log : List Move
   pub arrived : Arrives K (talk_at plan c) (reached plan c old) log new
-  pub status : given ≡ (answer_at plan c log).status
-  pub written : out' ≡ with_bytes (answer_at plan c log).text out
+  pub status : given ≡ (output_at plan c log).status
+  pub written : out' ≡ with_bytes (output_at plan c log).text out
 
 -- files that are sure of these names are sure of each name that the plan may come to read
 abbrev pub IsSureOfNames : {T : Type 0} → Option (List (List ℕ)) → Plan T → Type 0
@@ -69,7 +69,7 @@ IsSureOfNames sure (talk t answer) = Unit {0}
 -- Where the files tell and no count of faults rose or stands at its last number, the answer is the plan's, or memory
 -- ran out. A count doesn't rise where its port is sure: the files of each name, the link of one move more than it tells
 -- at the end, the sink of the text that is to be written.
-pub record IsComplete {T : Type 0} (K : Talks T) (plan : Plan T) (made : Option Answer) (old new : Outside) (out out' : SinkState) (given : Status) : Type 0 where
+pub record IsComplete {T : Type 0} (K : Talks T) (plan : Plan T) (made : Option Output) (old new : Outside) (out out' : SinkState) (given : Status) : Type 0 where
   pub completed : (told : FilesTold) → old.files.told ≡ Some told
       → (Rose old.files.faults new.files.faults → ⊥) → (Rose old.link.faults new.link.faults → ⊥) → (Rose out.faults out'.faults → ⊥)
       → Completed K plan told.contents old new out out' given ⊎ (given ≡ status.Memory)

@@ -10,20 +10,20 @@ use Rattle.pac_plan.specs.declared.status.Status.{Status}
 use Rattle.pac_plan.specs.declared.status.Status.TheVariants as status
 
 -- a status with the text that is to be written
-pub record Answer : Type 0 where
+pub record Output : Type 0 where
   pub status : Status
   pub text : List ℕ
 
 -- The steps of a command. Its talks over the link are described by T.
 pub data Plan (T : Type 0) : Type 0 where
   -- the answer
-  say : Answer → Plan T
+  say : Output → Plan T
   -- one run of a script, and then
   run : Plan T → Plan T
   -- reads the file of this kind and name; with its bytes goes on
   read : List ℕ → List ℕ → (List ℕ → Plan T) → Plan T
   -- talks over the link; the answer by its log
-  talk : T → (List Move → Answer) → Plan T
+  talk : T → (List Move → Output) → Plan T
 
 -- a plan, at once, or from the moment on that the clock gives
 pub data Program (T : Type 0) : Type 0 where
@@ -70,12 +70,12 @@ abbrev pub line : List ℕ → List ℕ
 line text = text ++ 10 ∷ []
 
 -- a file of this kind failed
-abbrev pub read_fault : List ℕ → Answer
+abbrev pub read_fault : List ℕ → Output
 read_fault kind = record { status = status.ReadFault; text = line (codes "fault read " ++ kind) }
 
 -- a file of this kind is longer than its limit
-abbrev pub too_long : List ℕ → Answer
+abbrev pub too_long : List ℕ → Output
 too_long kind = record { status = status.Refused; text = line (codes "refused " ++ kind ++ codes " TooLong") }
 
-abbrev pub link_fault : Answer
+abbrev pub link_fault : Output
 link_fault = record { status = status.LinkFault; text = line (codes "fault link") }

@@ -2,7 +2,7 @@
 use Rattle.std.specs.Prelude.{◌≡◌, ◌⊎◌, ℤ, Option}
 use Rattle.pac_ports.specs.Clock.{with_moment}
 use Rattle.pac_ports.specs.Sink.{SinkState}
-use Rattle.pac_plan.specs.Plan.{Answer, Plan, Program, at_once, timed, Outside, Talks}
+use Rattle.pac_plan.specs.Plan.{Output, Plan, Program, at_once, timed, Outside, Talks}
 use Rattle.pac_plan.specs.Follows.{Follows, Gives}
 use Rattle.pac_plan.specs.Complete.{IsComplete}
 use Rattle.pac_plan.specs.Order.{KeepsOrder}
@@ -12,7 +12,7 @@ use Rattle.pac_plan.specs.declared.status.Status.TheVariants as status
 -- The plan was followed and its answer written, in the order and with the completeness that every plan keeps.
 pub record ServesPlan {T : Type 0} (K : Talks T) (plan : Plan T) (old new : Outside) (out out' : SinkState) (given : Status) : Type 0 where
   -- the answer, or none where memory ran out
-  pub made : Option Answer
+  pub made : Option Output
   pub followed : Follows K plan old new made
   pub gave : Gives made given out out'
   pub complete : IsComplete K plan made old new out out' given

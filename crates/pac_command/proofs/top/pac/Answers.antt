@@ -1,10 +1,10 @@
 use Rattle.std.proofs.Common.{refl}
 use Rattle.pac_plan.proofs.Served.{serves}
-use Rattle.pac_command.specs.Resolve.{no_talks}
+use Rattle.pac_command.specs.Plans.{talks}
 use Rattle.pac_command.proofs.top.pac.Goals as goal
 
 pub returns-in-Ok : goal.returns-in-Ok
-returns-in-Ok g c = serves no_talks _ _ _ _ _ _ _ (rw c.deref.ensures.value at (c.in-Ok.ensures (record { files = g.F.Files.state c.args.files.now; link = g.N.Link.state c.args.link.now; clock = g.C.Clock.told c.args.clock.now; dice = g.D.Dice.told c.args.dice.now; runs = c.args.runs.now }))) c.give.ensures
+returns-in-Ok g c = serves talks _ _ _ _ _ _ _ (rw c.deref.ensures.value at (c.in-Ok.ensures (record { files = g.F.Files.state c.args.files.now; link = g.N.Link.state c.args.link.now; clock = g.C.Clock.told c.args.clock.now; dice = g.D.Dice.told c.args.dice.now; runs = c.args.runs.now }))) c.give.ensures
 
 pub returns-in-Err : goal.returns-in-Err
-returns-in-Err g c = serves no_talks _ _ _ _ _ _ _ (rw c.deref.ensures.value at (c.in-Err.ensures (record { files = g.F.Files.state c.args.files.now; link = g.N.Link.state c.args.link.now; clock = g.C.Clock.told c.args.clock.now; dice = g.D.Dice.told c.args.dice.now; runs = c.args.runs.now }))) (refl, refl)
+returns-in-Err g c = serves talks _ _ _ _ _ _ _ (rw c.deref.ensures.value at (c.in-Err.ensures (record { files = g.F.Files.state c.args.files.now; link = g.N.Link.state c.args.link.now; clock = g.C.Clock.told c.args.clock.now; dice = g.D.Dice.told c.args.dice.now; runs = c.args.runs.now }))) (refl, refl)

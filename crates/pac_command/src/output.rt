@@ -1,0 +1,96 @@
+// The output of a command, before it is written.
+ghost use Rattle.std.specs.Prelude.{◌≡◌, ◌++◌, ◌∷◌, []};
+ghost use Rattle.pac_plan.specs.Plan.{line};
+ghost use Rattle.pac_plan.specs.Follows.{IsUnlessMemory, Ends};
+ghost use Rattle.pac_command.specs.Resolve.{reported};
+ghost use Rattle.pac_command.specs.Scripts as scripts;
+ghost use Rattle.pac_command.specs.OutputView.{made};
+
+use crate::Status;
+use js_tree::{Place, ReadKind};
+use pac_ports::FilesAnswer;
+use std::alloc::Global;
+use utf16_text::{Memory, Text};
+
+/// A status with the text that is to be written.
+#[derive(Drop)]
+pub(crate) struct Output {
+    pub(crate) status: Status,
+    pub(crate) text: Vec<u8>,
+}
+
+/// A status with a line of three pieces.
+pub(crate) fn line(
+    alloc: Global,
+    status: Status,
+    first: &str,
+    second: &str,
+    third: &str,
+) -> Result<Output, Memory>
+    ensures { IsUnlessMemory (record { status = status; text = first.now ++ second.now ++ third.now ++ 10 ∷ [] }) (made result) }
+{
+    let mut text = Vec::new(alloc);
+    text.extend_from_slice(first.as_bytes())?;
+    text.extend_from_slice(second.as_bytes())?;
+    text.extend_from_slice(third.as_bytes())?;
+    text.push(b'\n')?;
+    Ok(Output { status, text })
+}
+
+/// The output where an input is refused.
+pub(crate) fn refused(alloc: Global, what: &str) -> Result<Output, Memory>
+    ensures { IsUnlessMemory (scripts.refused what.now) (made result) }
+{
+    line(alloc, Status::Refused, "refused ", what, "")
+}
+
+/// The output where a file of this kind was not read.
+pub(crate) fn not_read(alloc: Global, kind: &str, why: FilesAnswer) -> Result<Output, Memory>
+    ensures { Ends kind.now why (made result) }
+{
+    match why {
+        FilesAnswer::Failed => line(alloc, Status::ReadFault, "fault read ", kind, ""),
+        FilesAnswer::TooLong => line(alloc, Status::Refused, "refused ", kind, " TooLong"),
+        FilesAnswer::Memory => Err(Memory),
+    }
+}
+
+/// The output where a script is refused.
+pub(crate) fn refused_script(alloc: Global, kind: ReadKind, place: Place) -> Result<Output, Memory>
+    ensures { IsUnlessMemory (scripts.refused_script (kind, place)) (made result) }
+{
+    let name = kind_name(kind);
+    let text = format!(in alloc; "refused script {place} {name}\n")?;
+    Ok(Output {
+        status: Status::Refused,
+        text: text.into_bytes(),
+    })
+}
+
+fn kind_name(kind: ReadKind) -> &'static str
+    ensures { result.now ≡ scripts.kind_name kind }
+{
+    match kind {
+        ReadKind::BadToken => "BadToken",
+        ReadKind::Unexpected => "Unexpected",
+        ReadKind::TooDeep => "TooDeep",
+        ReadKind::FractionLiteral => "FractionLiteral",
+        ReadKind::Unsupported => "Unsupported",
+    }
+}
+
+/// The report of one URL and its result, after one run.
+pub(crate) fn report(alloc: Global, url: &Text, outcome: &Text) -> Result<Output, Memory>
+    ensures { IsUnlessMemory (reported url.now outcome.now) (made result) }
+{
+    let mut text = Vec::new(alloc);
+    text.extend_from_slice("url 1 ".as_bytes())?;
+    url.escape_into(alloc, &mut text, false)?;
+    text.extend_from_slice("\nresult ".as_bytes())?;
+    outcome.escape_into(alloc, &mut text, false)?;
+    text.extend_from_slice("\nruns 1\n".as_bytes())?;
+    Ok(Output {
+        status: Status::Good,
+        text,
+    })
+}
