@@ -1,0 +1,75 @@
+-- The octets of a question are read as the question.
+use Rattle.std.proofs.Common.{◌≡◌, ℕ, suc, ◌+◌, ◌-◌, ◌^◌, ◌<◌, Bool, true, false, cond, ◌&&◌, List, [], ◌∷◌, ◌++◌, map, length, slice_range, Option, Some, None, refl, sym, ◌∙◌, ap, subst, arith}
+use Rattle.std.specs.Prelude.{IsTrue, nat_eq}
+use Rattle.std.specs.List.{All, AllByRecursion, filter_map, flat_map, cons_option}
+use Rattle.std.specs.Cmp.Lexicographic.{pointwise}
+use Rattle.std.proofs.lemmas.List.Elements.{All-from_recursion, recursion_from_All}
+use Rattle.pac_names.specs.Labels.{labels_of}
+use Rattle.pac_names.specs.Names.{is_lookup_name}
+use Rattle.dns_name.proofs.SameLaws.{same_bytes, bytes_same}
+use Rattle.dns_name.specs.Writing.{wire_label}
+use Rattle.dns_message.specs.Numbers.{number_at}
+use Rattle.dns_message.specs.Question.{question_octets}
+use Rattle.dns_message.proofs.QueryLaws.{number_of, question_of, plain_is_name, plain_is_some, plain_labels}
+use Rattle.poll_log.specs.declared.question.Question.{Question}
+use Rattle.poll_log.specs.Questions.{IsQuestion, octets_of, asked_by, asked_in, checked_question, question_in, dotted_labels}
+
+labels_dotted : (name octets : List ℕ) → flat_map wire_label (labels_of name) ≡ octets → dotted_labels octets ≡ name
+labels_dotted name [] e = absurd (plain_is_some name e)
+labels_dotted name (first ∷ rest) e = plain_is_name name rest first e
+
+name_read : (octets name : List ℕ) (id : ℕ) → octets ≡ question_octets id name → dotted_labels (slice_range octets 12 (length octets - 5)) ≡ name
+name_read octets name id e = labels_dotted name _ (sym (plain_labels octets name (question_of octets name id e)))
+
+same_question : (q : Question) (id : ℕ) (name : List ℕ) → id ≡ q.id → name ≡ q.name → (record { id = id; name = name }) ≡ q
+same_question q id name e f = ap (λ (i : ℕ). let r : Question = record { id = i; name = name } in r) e ∙ ap (λ (n : List ℕ). let r : Question = record { id = q.id; name = n } in r) f
+
+pub question_read : (q : Question) → IsQuestion q → question_in (octets_of q) ≡ q
+question_read q p = same_question q _ _ (number_of (octets_of q) q.name q.id p.number refl) (name_read (octets_of q) q.name q.id refl)
+
+pub asked_by-octets_of : (q : Question) → IsQuestion q → asked_by (octets_of q) ≡ Some q
+unfolding asked_by
+asked_by-octets_of q p = ap (checked_question (octets_of q)) (question_read q p) ∙ ap (λ b. cond b (Some q) None) both
+  where
+    both : (is_lookup_name q.name && pointwise nat_eq (octets_of q) (octets_of q)) ≡ true
+    both = ap (λ b. b && pointwise nat_eq (octets_of q) (octets_of q)) p.name ∙ same_bytes (octets_of q) (octets_of q) refl
+
+pub asked_in-append : (xs ys : List (List ℕ)) → asked_in (xs ++ ys) ≡ asked_in xs ++ asked_in ys
+asked_in-append [] ys = refl
+asked_in-append (x ∷ xs) ys = go (asked_by x) (asked_in-append xs ys)
+  where
+    go : (r : Option Question) → asked_in (xs ++ ys) ≡ asked_in xs ++ asked_in ys → cons_option r (asked_in (xs ++ ys)) ≡ cons_option r (asked_in xs) ++ asked_in ys
+    go None e = e
+    go (Some q) e = ap (λ l. q ∷ l) e
+
+asked_all : (qs : List Question) → AllByRecursion IsQuestion qs → asked_in (map octets_of qs) ≡ qs
+asked_all [] p = refl
+asked_all (q ∷ qs) p = ap (λ r. cons_option r (asked_in (map octets_of qs))) (asked_by-octets_of q p.0) ∙ ap (λ l. q ∷ l) (asked_all qs p.1)
+
+-- the questions in their octets are they
+pub asked_in-octets : (qs : List Question) → All IsQuestion qs → asked_in (map octets_of qs) ≡ qs
+asked_in-octets qs p = asked_all qs (recursion_from_All IsQuestion qs p)
+
+-- a question that is read has a lookup name
+checked_name : (octets : List ℕ) (r q : Question) → checked_question octets r ≡ Some q → IsTrue (is_lookup_name q.name)
+checked_name octets r q e = go (is_lookup_name r.name) refl (pointwise nat_eq octets (octets_of r)) e
+  where
+    go : (b : Bool) → is_lookup_name r.name ≡ b → (c : Bool) → cond (b && c) (Some r) None ≡ Some q → IsTrue (is_lookup_name q.name)
+    go true h true f = let same : r ≡ q = cc in ap (λ (x : Question). is_lookup_name x.name) (sym same) ∙ h
+    go true h false f = cc
+    go false h c f = cc
+
+pub asked_name_is : (octets : List ℕ) (q : Question) → asked_by octets ≡ Some q → IsTrue (is_lookup_name q.name)
+unfolding asked_by
+asked_name_is octets q e = checked_name octets (question_in octets) q e
+
+abbrev pub HasLookupName : Question → Type 0
+HasLookupName q = IsTrue (is_lookup_name q.name)
+
+pub asked_names : (sent : List (List ℕ)) → AllByRecursion HasLookupName (asked_in sent)
+asked_names [] = tt
+asked_names (octets ∷ sent) = go (asked_by octets) refl (asked_names sent)
+  where
+    go : (r : Option Question) → asked_by octets ≡ r → AllByRecursion HasLookupName (asked_in sent) → AllByRecursion HasLookupName (cons_option r (asked_in sent))
+    go None e h = h
+    go (Some q) e h = (asked_name_is octets q e, h)

@@ -1,0 +1,9 @@
+pub mod Names
+pub mod Asking
+pub mod BeatLaws
+pub mod Marks
+pub mod Counts
+pub mod TurnLaws
+pub mod Dues
+pub mod Bounds
+pub mod Grows

@@ -1,0 +1,85 @@
+-- The laws of a log, for any jobs that obey the extension law.
+use Rattle.std.specs.Prelude.{◌≡◌, ℕ, ◌+◌, ◌*◌, ◌<◌, ◌≤◌, true, Option, Some, None, IsSome, List, [], ◌∷◌, ◌++◌, if◌then◌else◌}
+use Rattle.std.specs.List.{All}
+use Rattle.pac_names.specs.declared.answer.Answer.{Answer}
+use Rattle.pac_ports.specs.declared.link.Move.{Move}
+use Rattle.poll_log.specs.declared.terms.TheConstants.{FLOOD}
+use Rattle.poll_log.specs.declared.question.Question.{Question}
+use Rattle.poll_log.specs.declared.terms.Terms.{Terms}
+use Rattle.poll_log.specs.Turns.{Turns, Begin, Then, Event, turns_of}
+use Rattle.poll_log.specs.Beats.{beats, events}
+use Rattle.poll_log.specs.Questions.{IsQuestion, octets_of, asked_by, questions, was_sent, times}
+use Rattle.poll_log.specs.Told.{Map, told, IsDead, due_sends, limit}
+use Rattle.poll_log.specs.Jobs.{Job, IsFinished, IsUnanswered, runs_of, some_wait, SendsOwed, WaitsBefore}
+
+-- the larger map holds each answer of the smaller one
+abbrev pub Extends : Map → Map → Type 0
+Extends larger smaller = (n : List ℕ) (x : Answer) → smaller n ≡ Some x → larger n ≡ Some x
+
+-- The extension law, as far as it speaks of the first name that a job lacks: its run goes by the answers to the names that
+-- it asks, in their order, and asks so many at most.
+pub record IsRestartable (most : ℕ) (job : Job) : Type 0 where
+  -- how many names its run asks before the first one that it lacks
+  pub depth : Map → ℕ
+  -- what it lacks is not held
+  pub lacks : (map : Map) (n : List ℕ) → job map ≡ Some n → map n ≡ None
+  -- it lacks the same name until that one is held
+  pub waits : (larger smaller : Map) (n : List ℕ) → Extends larger smaller → job smaller ≡ Some n → larger n ≡ None → job larger ≡ Some n
+  -- where it lacks none it never does
+  pub done : (larger smaller : Map) → Extends larger smaller → job smaller ≡ None → job larger ≡ None
+  -- more answers never make it ask less, and the answer to the name that it lacks makes it ask more
+  pub grows : (larger smaller : Map) → Extends larger smaller → depth smaller ≤ depth larger
+  pub deeper : (larger smaller : Map) (n : List ℕ) (x : Answer) → Extends larger smaller → job smaller ≡ Some n → larger n ≡ Some x → depth smaller + 1 ≤ depth larger
+  pub within : (map : Map) → depth map ≤ most
+  pub before : (map : Map) (n : List ℕ) → job map ≡ Some n → depth map + 1 ≤ most
+
+-- the octets of a question are read as that question
+abbrev pub QuestionsAreRead : Type 0
+QuestionsAreRead = (q : Question) → IsQuestion q → asked_by (octets_of q) ≡ Some q
+
+-- what was not sent is not told
+abbrev pub ToldWasSent : Type 0
+ToldWasSent = (terms : Terms) (turns : Turns) (n : List ℕ) → IsSome (told terms turns n) → was_sent turns n ≡ true
+
+-- told answers only grow: in a longer log each stands as it was
+abbrev pub ToldGrows : Type 0
+ToldGrows = (terms : Terms) (moves more : List Move) → Extends (told terms (turns_of (moves ++ more))) (told terms (turns_of moves))
+
+-- a dead name stays dead
+abbrev pub DeadStays : Type 0
+DeadStays = (terms : Terms) (moves more : List Move) (n : List ℕ) → IsDead terms (turns_of moves) n → IsDead terms (turns_of (moves ++ more)) n
+
+-- a finished job stays finished
+abbrev pub FinishedStays : Type 0
+FinishedStays =
+    (most : ℕ) (terms : Terms) (moves more : List Move) (job : Job) → IsRestartable most job
+    → IsFinished terms (turns_of moves) job → IsFinished terms (turns_of (moves ++ more)) job
+
+-- an unanswered job stays so, with its name
+abbrev pub UnansweredStays : Type 0
+UnansweredStays =
+    (most : ℕ) (terms : Terms) (moves more : List Move) (job : Job) (n : List ℕ) → IsRestartable most job
+    → IsUnanswered terms (turns_of moves) job n → IsUnanswered terms (turns_of (moves ++ more)) job n
+
+-- a job costs at most one run more than the names that it asked
+abbrev pub RunBound : Type 0
+RunBound = (most : ℕ) (terms : Terms) (turns : Turns) (job : Job) (law : IsRestartable most job) → runs_of terms turns job ≤ law.depth (told terms turns) + 1
+
+-- where what is owed was sent, each name was sent exactly as often as it is due
+abbrev pub SentAsDue : Type 0
+SentAsDue =
+    (terms : Terms) (jobs : List Job) (turns : Turns) → 0 < terms.wait → 0 < terms.tries → SendsOwed terms jobs turns
+    → (n : List ℕ) → times (questions turns) n ≡ (if was_sent turns n then due_sends terms turns n else 0)
+
+-- A log has an end.
+pub record IsBounded (most : ℕ) (terms : Terms) (jobs : List Job) (turns : Turns) : Type 0 where
+  pub few_beats : beats turns ≤ most * limit terms
+  pub few_events : events turns ≤ FLOOD * (most * limit terms)
+  -- while some job waits there are fewer
+  pub waiting : some_wait terms jobs turns ≡ true → events turns < FLOOD * (most * limit terms)
+
+-- where what is owed was sent, and some job waited before each event, the beats and the events have a bound
+abbrev pub BeatBound : Type 0
+BeatBound =
+    (most : ℕ) (terms : Terms) (jobs : List Job) (turns : Turns) → All (IsRestartable most) jobs → SendsOwed terms jobs turns → WaitsBefore terms jobs turns
+    → IsBounded most terms jobs turns

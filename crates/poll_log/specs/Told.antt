@@ -1,0 +1,76 @@
+-- How old a name is, what it was answered, and when it is to be sent again or is dead. All by counting in the log.
+use Rattle.std.specs.Prelude.{ℕ, zero, suc, ◌+◌, ◌-◌, ◌*◌, Bool, true, false, ◌&&◌, not, nat_le, if◌then◌else◌, IsTrue, Option, Some, None, is_none, List, [], ◌∷◌}
+use Rattle.pac_names.specs.declared.answer.Answer.{Answer}
+use Rattle.dns_message.specs.Reply.{reply_of}
+use Rattle.poll_log.specs.declared.question.Question.{Question}
+use Rattle.poll_log.specs.declared.terms.Terms.{Terms}
+use Rattle.poll_log.specs.Turns.{Turns, Begin, Then, Event, Given, Tick}
+use Rattle.poll_log.specs.Beats.{beat_of}
+use Rattle.poll_log.specs.Questions.{firsts, was_sent, has_name, number_in}
+
+-- answers by name
+abbrev pub Map : Type 0
+Map = List ℕ → Option Answer
+
+-- The beats among the events from the turn of the first send on; turn 0 has no event. A name that was not sent has none.
+unfoldable pub age : Turns → List ℕ → ℕ
+age (Begin sent) n = 0
+age (Then before event sent) n = if was_sent (Then before event sent) n then age before n + beat_of before event else 0
+
+-- the age from which on no reply is taken
+abbrev pub limit : Terms → ℕ
+limit terms = terms.wait * terms.tries
+
+abbrev pub is_overdue : Terms → Turns → List ℕ → Bool
+is_overdue terms turns n = nat_le (limit terms) (age turns n)
+
+-- what a datagram answers to the question for the name under this number, where it has one
+abbrev pub reply_to : Option ℕ → List ℕ → List ℕ → Option Answer
+reply_to None datagram n = None
+reply_to (Some id) datagram n = reply_of datagram id n
+
+-- what a datagram answers to a name that was sent among the first sends, unless it has reached the limit
+unfoldable pub accepted_in : ℕ → (List ℕ → ℕ) → List Question → List ℕ → Map
+accepted_in limit age sent datagram n =
+    if has_name n sent && not (nat_le limit (age n)) then reply_to (number_in sent n) datagram n else None
+
+-- what the next event answers to the name: it was sent in an earlier turn, and is not overdue before the event
+unfoldable pub accepted : Terms → Turns → Event → Map
+accepted terms turns Tick n = None
+accepted terms turns (Given datagram) n = accepted_in (limit terms) (age turns) (firsts turns) datagram n
+
+-- an answer that stands, or else the new one
+abbrev pub or_else : Option Answer → Option Answer → Option Answer
+or_else (Some answer) other = Some answer
+or_else None other = other
+
+-- the answer of the first accepted reply
+unfoldable pub told : Terms → Turns → Map
+told terms (Begin sent) n = None
+told terms (Then before event sent) n = or_else (told terms before n) (accepted terms before event n)
+
+-- sent, overdue and not told
+unfoldable pub is_dead : Terms → Turns → List ℕ → Bool
+is_dead terms turns n = was_sent turns n && is_none (told terms turns n) && is_overdue terms turns n
+
+abbrev pub IsOverdue : Terms → Turns → List ℕ → Type 0
+IsOverdue terms turns n = IsTrue (is_overdue terms turns n)
+
+abbrev pub IsDead : Terms → Turns → List ℕ → Type 0
+IsDead terms turns n = IsTrue (is_dead terms turns n)
+
+-- the age; that of a told name is the one at the end of the turn before its accepted reply
+unfoldable pub stopped_age : Terms → Turns → List ℕ → ℕ
+stopped_age terms (Begin sent) n = 0
+stopped_age terms (Then before event sent) n =
+    if is_none (told terms (Then before event sent) n) then age (Then before event sent) n
+    else (if is_none (told terms before n) then age before n else stopped_age terms before n)
+
+-- how many of the first multiples of the wait, so many, an age has reached
+abbrev pub marks : ℕ → ℕ → ℕ → ℕ
+marks wait zero age = 0
+marks wait (suc m) age = marks wait m age + (if nat_le ((m + 1) * wait) age then 1 else 0)
+
+-- how often the name is to have been sent: once, and once more at each multiple of the wait below the limit
+unfoldable pub due_sends : Terms → Turns → List ℕ → ℕ
+due_sends terms turns n = marks terms.wait (terms.tries - 1) (stopped_age terms turns n) + 1

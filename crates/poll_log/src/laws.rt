@@ -1,0 +1,47 @@
+// The laws over the definitions of a log, each once.
+ghost use Rattle.poll_log.specs.Laws.{BeatBound, DeadStays, FinishedStays, QuestionsAreRead, RunBound, SentAsDue, ToldGrows, ToldWasSent, UnansweredStays};
+
+/// The octets of a question are read as that question.
+pub fn questions_are_read()
+    ensures { QuestionsAreRead }
+{}
+
+/// No name is told that was not sent.
+pub fn told_was_sent()
+    ensures { ToldWasSent }
+{}
+
+/// Told answers only grow.
+pub fn told_grows()
+    ensures { ToldGrows }
+{}
+
+/// A dead name stays dead.
+pub fn dead_stays()
+    ensures { DeadStays }
+{}
+
+/// A finished job stays finished.
+pub fn finished_stays()
+    ensures { FinishedStays }
+{}
+
+/// An unanswered job stays unanswered, with its name.
+pub fn unanswered_stays()
+    ensures { UnansweredStays }
+{}
+
+/// A job costs at most one run more than the names that it asked.
+pub fn run_bound()
+    ensures { RunBound }
+{}
+
+/// In a log with the sends that are owed each name was sent exactly as often as it is due.
+pub fn sent_as_due()
+    ensures { SentAsDue }
+{}
+
+/// A log in which some job waits before each event has an end.
+pub fn beat_bound()
+    ensures { BeatBound }
+{}
