@@ -1,0 +1,7 @@
+pub mod Examples
+pub mod Fits
+pub mod Names
+pub mod Numbers
+pub mod Resolved
+pub mod Scopes
+pub mod Source
