@@ -191,6 +191,7 @@ const STATEMENTS: &[(&str, &str)] = &[
     ("a = b\n(c)", "( a = ( b ( c ) ) ) ;"),
     ("a\n++\nb", "a ; ( ++ b ) ;"),
     ("{ 1\n2 } 3", "{ 1 ; 2 ; } 3 ;"),
+    ("function f() { return }", "function f ( ) { return ; }"),
     (
         "function f() { return\na }",
         "function f ( ) { return ; a ; }",
@@ -270,6 +271,12 @@ const REFUSED_STATEMENTS: &[(&str, &str)] = &[
     // `in` in the header of a `for` loop, also behind its first semicolon and between `?` and `:`.
     ("for (; a in b; ) c", "Unexpected at 1:10"),
     ("for (a in b in c) d", "Unexpected at 1:13"),
+    ("for (a in b; ; ) c", "Unexpected at 1:12"),
+    ("for (; ; a in b) c", "Unexpected at 1:12"),
+    ("for (a = b in c; ; ) d", "Unexpected at 1:12"),
+    ("for (var a = b in c; ; ) d", "Unexpected at 1:20"),
+    ("for (; a = b in c; ) d", "Unexpected at 1:14"),
+    ("for (; ; a = b in c) d", "Unexpected at 1:16"),
     ("for (a ? b in c : d; ; ) e", "Unexpected at 1:12"),
     ("for (var a, b in c) d", "Unexpected at 1:15"),
     // Words that stand outside of what they end.
@@ -284,6 +291,9 @@ const REFUSED_STATEMENTS: &[(&str, &str)] = &[
     ("while (a) break b", "Unexpected at 1:17"),
     // `throw` at a line's end.
     ("throw\na", "Unexpected at 2:1"),
+    ("throw\nclass", "Unexpected at 2:1"),
+    ("throw\n(a)", "Unexpected at 2:1"),
+    ("throw\n;", "Unexpected at 2:1"),
     ("throw", "Unexpected at 1:6"),
 ];
 
@@ -318,6 +328,9 @@ const REFUSED_FORMS: &[(&str, &str)] = &[
     ("if (a) b: c", "Unsupported at 1:8"),
     ("({get a() { }})", "Unsupported at 1:3"),
     ("({set if: 1})", "Unsupported at 1:3"),
+    ("({get 1: 2})", "Unsupported at 1:3"),
+    ("({set 'a': 1})", "Unsupported at 1:3"),
+    ("({'get' a: 1})", "Unexpected at 1:9"),
     ("{ function f() { } }", "Unsupported at 1:3"),
     ("if (a) function f() { }", "Unsupported at 1:8"),
     (
@@ -368,31 +381,106 @@ fn nested(
     Ok(source)
 }
 
+/// So many parts around the middle, each of them this front and back, and what comes of it.
+const NESTED: &[(usize, &str, &str, &str, &str)] = &[
+    // The statement and its expression are two, and each bracket is one more.
+    (198, "(", "1", ")", "read"),
+    (199, "(", "1", ")", "TooDeep at 1:200"),
+    // The operand of a prefix operator.
+    (199, "!", "a", "", "TooDeep at 1:200"),
+    // The callee of `new`.
+    (199, "new ", "a", "", "TooDeep at 1:797"),
+    // Statements in statements, and the expression in the last.
+    (199, "{", ";", "}", "read"),
+    (200, "{", ";", "}", "TooDeep at 1:201"),
+    (199, "{", "a", "}", "TooDeep at 1:200"),
+    // `else if` opens no statement.
+    (300, "if (a) ; else ", ";", "", "read"),
+    // A value of an assignment, and the part behind `?`.
+    (199, "a = ", "b", "", "TooDeep at 1:797"),
+    (199, "a ? ", "b", ": c", "TooDeep at 1:797"),
+];
+
+/// Parts in so many blocks: the 201st one is refused at its first token, and one block less is read.
+const PARTS: &[(usize, &str, &str)] = &[
+    // Parts of expressions: an argument, an item, an index, a property's value, the part behind `:`, an operand.
+    (198, "f(a)", "TooDeep at 1:201"),
+    (198, "[a]", "TooDeep at 1:200"),
+    (198, "a[b]", "TooDeep at 1:201"),
+    (197, "x={a:b}", "TooDeep at 1:203"),
+    (197, "a?b:(c)", "TooDeep at 1:203"),
+    (198, "-a", "TooDeep at 1:200"),
+    (198, "++a", "TooDeep at 1:201"),
+    // Expressions of statements: a value of `var`, the condition of `if`, the test of a `case`.
+    (199, "var a=b", "TooDeep at 1:206"),
+    (199, "if(a);", "TooDeep at 1:203"),
+    (198, "switch(a){case(b):}", "TooDeep at 1:214"),
+    // Statements in statements: branches, bodies of loops, the blocks of `try`, a clause.
+    (198, "if(a){;}", "TooDeep at 1:205"),
+    (198, "if(a);else{;}", "TooDeep at 1:210"),
+    (198, "while(a){;}", "TooDeep at 1:208"),
+    (198, "do{;}while(a)", "TooDeep at 1:202"),
+    (199, "for(;;);", "TooDeep at 1:207"),
+    (198, "for(a in b){;}", "TooDeep at 1:211"),
+    (199, "try{}finally{}", "TooDeep at 1:203"),
+    (198, "try{}catch(a){;}", "TooDeep at 1:213"),
+    (198, "switch(a){default:{;}}", "TooDeep at 1:218"),
+    // A statement of a function's body, which counts from where the function stands.
+    (197, "x=function(){;}", "TooDeep at 1:211"),
+];
+
+/// At the edge, in so many blocks: a part that must stand is counted whatever comes there, and no statement of a row is
+/// where the row ends.
+const EDGES: &[(usize, &str, &str)] = &[
+    (199, "do", "TooDeep at 1:202"),
+    (199, "do}", "TooDeep at 1:202"),
+    (199, "do case", "TooDeep at 1:203"),
+    (199, "for(;;)", "TooDeep at 1:207"),
+    (199, "for(;;)}", "TooDeep at 1:207"),
+    (199, "for(;;)default", "TooDeep at 1:207"),
+    (199, "for(", "TooDeep at 1:204"),
+    (199, "for(;", "TooDeep at 1:205"),
+    (199, "if(", "TooDeep at 1:203"),
+    (199, "try", "TooDeep at 1:203"),
+    (199, "try}", "TooDeep at 1:203"),
+    (199, "throw", "Unexpected at 1:205"),
+    (200, "", "Unexpected at 1:201"),
+    (200, "case", "Unexpected at 1:201"),
+];
+
 #[test]
 fn nesting_ends_at_two_hundred(rt: HostRuntime) -> Result<(), Fail> {
     let alloc = rt.alloc();
-    let cases = [
-        // The statement and its expression are two, and each bracket is one more.
-        (198, "(", "1", ")", "read"),
-        (199, "(", "1", ")", "TooDeep at 1:200"),
-        // The operand of a prefix operator.
-        (199, "!", "a", "", "TooDeep at 1:200"),
-        // The callee of `new`.
-        (199, "new ", "a", "", "TooDeep at 1:797"),
-        // Statements in statements, and the expression in the last.
-        (199, "{", ";", "}", "read"),
-        (200, "{", ";", "}", "TooDeep at 1:201"),
-        (199, "{", "a", "}", "TooDeep at 1:200"),
-        // `else if` opens no statement.
-        (300, "if (a) ; else ", ";", "", "read"),
-        // A value of an assignment, and the part behind `?`.
-        (199, "a = ", "b", "", "TooDeep at 1:797"),
-        (199, "a ? ", "b", ": c", "TooDeep at 1:797"),
-    ];
-    for (count, front, middle, back, wanted) in cases {
-        let source = nested(alloc, count, front, middle, back)?;
+    for (count, front, middle, back, wanted) in NESTED {
+        let source = nested(alloc, *count, front, middle, back)?;
         let line = outcome(&rt, alloc, source.as_str())?;
-        assert_eq!(rt; line.as_str(), wanted, "of {count} {front}");
+        assert_eq!(rt; line.as_str(), *wanted, "of {count} {front}");
+    }
+    Ok(())
+}
+
+#[test]
+fn each_nested_part_counts(rt: HostRuntime) -> Result<(), Fail> {
+    let alloc = rt.alloc();
+    for (count, middle, wanted) in PARTS {
+        let source = nested(alloc, *count, "{", middle, "}")?;
+        let line = outcome(&rt, alloc, source.as_str())?;
+        assert_eq!(rt; line.as_str(), *wanted, "of {middle}");
+        let source = nested(alloc, count.saturating_sub(1), "{", middle, "}")?;
+        let line = outcome(&rt, alloc, source.as_str())?;
+        assert_eq!(rt; line.as_str(), "read", "of {middle}");
+    }
+    Ok(())
+}
+
+#[test]
+fn what_must_stand_is_counted_first(rt: HostRuntime) -> Result<(), Fail> {
+    let alloc = rt.alloc();
+    for (count, last, wanted) in EDGES {
+        let mut source = nested(alloc, *count, "{", "", "")?;
+        source.push_str(last)?;
+        let line = outcome(&rt, alloc, source.as_str())?;
+        assert_eq!(rt; line.as_str(), *wanted, "of {last}");
     }
     Ok(())
 }
