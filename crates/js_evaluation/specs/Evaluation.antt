@@ -1,0 +1,179 @@
+-- Evaluation: what each part of a script does, with so much room left in depth; and one run of a script.
+use Rattle.std.specs.Prelude.{ℕ, zero, suc, List, [], ◌∷◌, take, Option, Some, None, Ok, Err, if◌then◌else◌, codes}
+use Rattle.js_tree.specs.declared.place.Place.{Place}
+use Rattle.js_tree.specs.Tree.{ExpressionTree, FunctionTree, StatementTree, Statements}
+use Rattle.heap_values.specs.declared.found.Found.{Found}
+use Rattle.heap_values.specs.declared.found.Found.TheVariants as found
+use Rattle.heap_values.specs.declared.ids.Kind.{Kind}
+use Rattle.heap_values.specs.declared.ids.Kind.TheVariants as kind
+use Rattle.heap_values.specs.declared.ids.ObjectId.{ObjectId}
+use Rattle.heap_values.specs.declared.ids.ScopeId.{ScopeId}
+use Rattle.heap_values.specs.declared.value.Value.{Value}
+use Rattle.heap_values.specs.declared.value.Value.TheVariants as value
+use Rattle.heap_values.specs.Views.{HeapView}
+use Rattle.object_heap.specs.Fresh.{fresh_heap}
+use Rattle.object_heap.specs.Heap.{object_at, kind_in, found_of}
+use Rattle.js_convert.specs.Texts.{text_of}
+use Rattle.js_host.specs.Answers.{Name, AnswerMap}
+use Rattle.js_host.specs.Seen.{kept_alerts, most_units}
+use Rattle.run_trees.specs.declared.abrupt.Abrupt.TheVariants as ending
+use Rattle.run_trees.specs.RunTree.{RunTree, Done}
+use Rattle.run_trees.specs.Runs.{reading, ◌>>◌}
+use Rattle.run_trees.specs.WholeRun.{whole_run}
+use Rattle.js_evaluation.specs.declared.fault.Fault.{Fault}
+use Rattle.js_evaluation.specs.declared.fault.FaultCode.TheVariants as code
+use Rattle.js_evaluation.specs.State.{RunState, RunEnd, Comes, Faults, Does, fault, charge, test_text, global_object}
+use Rattle.js_evaluation.specs.Objects.{Context, global_id, is_callable}
+use Rattle.js_evaluation.specs.Conversions.{Call}
+use Rattle.js_evaluation.specs.Natives.{joined, class_of_kind}
+use Rattle.js_evaluation.specs.Expressions.{expression_place, expression_node, target_node, reference, write}
+use Rattle.js_evaluation.specs.Statements.{statement_place, statement_node, statements_from}
+use Rattle.js_evaluation.specs.Entries.{call_node, construct_node, load_node}
+
+-- What can be open: an expression, an expression as a target, a statement, a call, a construction, the load of a script.
+pub data Part : Type 0 where
+  expression_part : Context → ExpressionTree → Part
+  target_part : Context → ExpressionTree → Part
+  statement_part : Context → StatementTree → Part
+  call_part : ObjectId → Value → List Value → Place → Part
+  construct_part : ObjectId → List Value → Place → Part
+  load_part : ScopeId → Statements → Part
+
+-- what arises outside every node has this place
+abbrev pub outside : Place
+outside = record { line = 0; column = 0 }
+
+abbrev pub part_place : Part → Place
+part_place (expression_part cx e) = expression_place e
+part_place (target_part cx e) = expression_place e
+part_place (statement_part cx s) = statement_place s
+part_place (call_part f this vs p) = p
+part_place (construct_part f vs p) = p
+part_place (load_part outer ss) = outside
+
+-- ---- one part, by what it makes of the parts within (go)
+
+module _ (functions : List FunctionTree) (go : Part → Does Value) where
+  abbrev pub visit : Context → ExpressionTree → Does Value
+  visit cx e = go (expression_part cx e)
+
+  abbrev pub visit_target : Context → ExpressionTree → Does Value
+  visit_target cx e = go (target_part cx e)
+
+  abbrev pub execute : Context → StatementTree → Does Value
+  execute cx s = go (statement_part cx s)
+
+  abbrev pub call : Call
+  call f this vs p = go (call_part f this vs p)
+
+  abbrev pub construct : ObjectId → List Value → Place → Does Value
+  construct f vs p = go (construct_part f vs p)
+
+  abbrev pub body : Context → Statements → Does Value
+  body cx ss = statements_from visit execute (reference functions visit visit_target call construct) write cx ss
+
+  abbrev pub node : Part → Does Value
+  node (expression_part cx e) = expression_node functions visit visit_target call construct cx e
+  node (target_part cx e) = target_node functions visit visit_target call construct cx e
+  node (statement_part cx s) = statement_node visit execute (reference functions visit visit_target call construct) write cx s
+  node (call_part f this vs p) = call_node functions body call f this vs p
+  node (construct_part f vs p) = construct_node functions body call f vs p
+  node (load_part outer ss) = load_node functions body outer ss outside
+
+-- ---- with so many parts that may still be opened
+
+-- Each part is charged before it is done; past the most open parts it is a fault.
+unfoldable pub evaluation : List FunctionTree → ℕ → Part → Does Value
+evaluation functions zero part = charge (part_place part) >> fault code.TooDeep (part_place part)
+evaluation functions (suc room) part = charge (part_place part) >> node functions (evaluation functions room) part
+
+-- ---- a run
+
+-- how many parts may be open
+abbrev pub most_open : ℕ
+most_open = 2000
+
+-- what a run is for: the URL and its host as the script sees them, and the fuel
+pub record Entry : Type 0 where
+  pub url : List ℕ
+  pub host : List ℕ
+  pub fuel : ℕ
+
+-- the outermost scope
+abbrev pub outer_scope : ScopeId
+outer_scope = record { 0 = 0 }
+
+-- the function of a script, where the global name stands for one
+abbrev pub entry_of : HeapView → Found → Option ObjectId
+entry_of h (found.Value (value.Object id)) = if is_callable h (value.Object id) then Some id else None
+entry_of h f = None
+
+-- the two texts are tested, and then the function is called
+abbrev pub called_for : List FunctionTree → Entry → Option ObjectId → Does Value
+called_for functions entry None = fault code.NoEntry outside
+called_for functions entry (Some f) =
+    test_text entry.url outside >> test_text entry.host outside
+    >> evaluation functions most_open (call_part f global_object (value.Text entry.url ∷ value.Text entry.host ∷ []) outside)
+
+-- the script is loaded, and then its function `FindProxyForURL` is called with the URL and the host
+abbrev pub script_run : Statements → List FunctionTree → Entry → Does Value
+script_run ss functions entry =
+    evaluation functions most_open (load_part outer_scope ss)
+    >> reading (λ s. called_for functions entry (entry_of s.heap (found_of s.heap global_id (codes "FindProxyForURL"))))
+
+abbrev pub first_state : Entry → RunState
+first_state entry = record { heap = fresh_heap; fuel = entry.fuel; base = value.Undefined }
+
+-- a run as a tree of what it asks of its host; the heap at its beginning holds the built-in objects alone
+abbrev pub run_tree : Statements → List FunctionTree → Entry → RunTree RunEnd
+run_tree ss functions entry = script_run ss functions entry (λ result state. Done (Comes result state)) (first_state entry)
+
+-- ---- how a run ended
+
+-- the text of a value that was thrown and that nothing handled; no script is run for it
+abbrev pub text_under : Found → List ℕ
+text_under (found.Value (value.Text t)) = t
+text_under f = []
+
+abbrev pub object_thrown : HeapView → ObjectId → Kind → List ℕ
+object_thrown h id kind.Error = joined (text_under (found_of h id (codes "name"))) (text_under (found_of h id (codes "message")))
+object_thrown h id k = class_of_kind k
+
+abbrev pub thrown_text : HeapView → Value → List ℕ
+thrown_text h (value.Object id) = object_thrown h id (kind_in (object_at h id))
+thrown_text h v = text_of v
+
+-- A run gives a text as its result, or ends in a fault.
+pub data Ending : Type 0 where
+  Gives : List ℕ → Ending
+  Fails : Fault → Ending
+
+abbrev pub plain_fault : Fault → Ending
+plain_fault f = Fails f
+
+abbrev pub not_a_string : Ending
+not_a_string = Fails (record { code = code.NotAString; place = outside; detail = [] })
+
+abbrev pub uncaught : HeapView → Value → Place → Ending
+uncaught h v place = Fails (record { code = code.Uncaught; place = place; detail = take most_units (thrown_text h v) })
+
+abbrev pub ending_of : RunEnd → Ending
+ending_of (Faults f) = Fails f
+ending_of (Comes (Ok (value.Text t)) state) = Gives t
+ending_of (Comes (Ok v) state) = not_a_string
+ending_of (Comes (Err (ending.Thrown thrown)) state) = uncaught state.heap thrown.value thrown.place
+ending_of (Comes (Err stop) state) = not_a_string
+
+-- the outcome of a run: how it ended, and the alerts that are kept
+pub record Outcome : Type 0 where
+  pub ending : Ending
+  pub alerts : List (List ℕ)
+
+-- one uninterrupted run of a resolved script against a map of all names, and the names that it asks
+abbrev pub run_outcome : Statements → List FunctionTree → Entry → AnswerMap → Outcome
+run_outcome ss functions entry answers =
+    let run = whole_run answers (run_tree ss functions entry) in
+    record { ending = ending_of run.end; alerts = kept_alerts run.alerts }
+
+abbrev pub asked_names : Statements → List FunctionTree → Entry → AnswerMap → List Name
+asked_names ss functions entry answers = (whole_run answers (run_tree ss functions entry)).asked

@@ -1,0 +1,9 @@
+pub mod Conversions
+pub mod Entries
+pub mod Evaluation
+pub mod Examples
+pub mod Expressions
+pub mod Natives
+pub mod Objects
+pub mod State
+pub mod Statements
