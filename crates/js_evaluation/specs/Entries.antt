@@ -15,6 +15,8 @@ use Rattle.heap_values.specs.declared.ids.Kind.{Kind}
 use Rattle.heap_values.specs.declared.ids.Kind.TheVariants as kind
 use Rattle.heap_values.specs.declared.ids.ObjectId.{ObjectId}
 use Rattle.heap_values.specs.declared.ids.ScopeId.{ScopeId}
+use Rattle.heap_values.specs.declared.property.Content.{Content}
+use Rattle.heap_values.specs.declared.property.Content.TheVariants as content
 use Rattle.heap_values.specs.declared.property.Property.{Property}
 use Rattle.heap_values.specs.declared.built_in.BuiltIn.TheVariants as built_in
 use Rattle.heap_values.specs.declared.value.Value.{Value}
@@ -127,12 +129,20 @@ module _ (functions : List FunctionTree) where
 
     -- ---- the load of a script (10.5, 14)
 
-    -- a global property that was there: one that can be deleted becomes a listed one that can't, a listed one keeps its
-    -- marks, and one that can't be written is refused
+    abbrev pub is_left_out : Content → Bool
+    is_left_out (content.LeftOut t) = true
+    is_left_out (content.Value v) = false
+
+    -- whether a global property that was there gives way to a function: one that can be deleted, a listed one (which can
+    -- be written), and one that is left out
+    abbrev pub gives_way : Property → Bool
+    gives_way old = old.deletable || old.listed || is_left_out old.content
+
+    -- the function is listed and can't be deleted; a property that doesn't give way refuses it
     abbrev pub declared_over : Option Property → List ℕ → Value → Place → Does (Unit {0})
     declared_over None name f p = define global_id name f true false p
     declared_over (Some old) name f p =
-        if old.deletable || old.listed then define global_id name f true false p else throw_type_error (codes "not an object") p
+        if gives_way old then define global_id name f true false p else throw_type_error (codes "not an object") p
 
     abbrev pub own_property : Option ObjectView → List ℕ → Option Property
     own_property None name = None

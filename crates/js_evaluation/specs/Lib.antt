@@ -1,9 +1,11 @@
 pub mod Conversions
+pub mod CostExamples
 pub mod Entries
 pub mod Evaluation
 pub mod Examples
 pub mod Expressions
 pub mod Natives
 pub mod Objects
+pub mod RuleExamples
 pub mod State
 pub mod Statements
