@@ -5,7 +5,7 @@ use Rattle.js_evaluation.specs.Expressions.{expression_node}
 use Rattle.js_evaluation.specs.Statements.{statement_node}
 use Rattle.js_evaluation.specs.Entries.{call_node, construct_node, load_node}
 use Rattle.js_evaluation.specs.Evaluation.{evaluation}
-use Rattle.js_evaluation.specs.Examples.{run_of, at, doing, gives, fails, fails_with}
+use Rattle.js_evaluation.specs.Examples.{run_of, at, doing, gives, fails}
 use Rattle.std.specs.Fmt.{digits}
 use Rattle.js_grammar.specs.Tokens.{piece_at, tokens_from}
 use Rattle.js_grammar.specs.Literals.{text_from}
