@@ -1,0 +1,123 @@
+-- Properties, names and functions come to one end.
+use Rattle.std.proofs.Common.{ℕ, pos, List, ◌++◌, Bool, true, false, Option, Some, None, Result, Ok, Err}
+use Rattle.std.specs.Prelude.{codes}
+use Rattle.js_tree.specs.declared.place.Place.{Place}
+use Rattle.js_tree.specs.declared.bound.Bound.{Bound}
+use Rattle.js_tree.specs.declared.bound.Bound.TheVariants as bound
+use Rattle.js_tree.specs.declared.bound.BoundName.{BoundName}
+use Rattle.heap_values.specs.declared.answer.HeapAnswer.{HeapAnswer}
+use Rattle.heap_values.specs.declared.answer.HeapAnswer.TheVariants as heap
+use Rattle.heap_values.specs.declared.found.Found.{Found}
+use Rattle.heap_values.specs.declared.found.Found.TheVariants as found
+use Rattle.heap_values.specs.declared.ids.Kind.TheVariants as kind
+use Rattle.heap_values.specs.declared.ids.ObjectId.{ObjectId}
+use Rattle.heap_values.specs.declared.ids.ScopeId.{ScopeId}
+use Rattle.heap_values.specs.declared.built_in.BuiltIn.TheVariants as built_in
+use Rattle.heap_values.specs.declared.value.Value.{Value}
+use Rattle.heap_values.specs.declared.value.Value.TheVariants.{Undefined, Null, Bool as Truth, Number, Object}
+use Rattle.heap_values.specs.Views.{HeapView}
+use Rattle.heap_objects.specs.Object.{property_after}
+use Rattle.object_heap.specs.Heap.{object_at, slot_of, found_of, own_found_in, stored, deleted_of}
+use Rattle.js_evaluation.specs.State.{built_in_object}
+use Rattle.js_evaluation.specs.Objects.{Context, holder_of, own_of, found_value, get_from, get_or, get, test_base, is_fixed, written, put_on, put, truth_after, deleted_unless, delete_property, is_there, has_property, scope_out, global_id, global_value, read_bound, read_name, read_or_undefined_by, read_or_undefined, write_bound, write_name, delete_bound, closure}
+use Rattle.js_law_evaluation.proofs.OfState.{Ends, gives, fails, halts, reads, ◌onto◌, ◌then◌, either, with_heap-ends, make-ends, define-ends, write_slot-ends, throw_error-ends, throw_type_error-ends}
+
+-- ---- properties of values
+
+pub found_value-ends : (otherwise : Value) (f : Found) (place : Place) → Ends (found_value otherwise f place)
+found_value-ends otherwise (found.Value v) place = gives v
+found_value-ends otherwise found.Absent place = gives otherwise
+found_value-ends otherwise (found.LeftOut name) place = halts _
+
+get_from-ends : (holder : Option ObjectId) (name : List ℕ) (place : Place) → Ends (get_from holder name place)
+get_from-ends None name place = throw_type_error-ends (codes "not an object") place
+get_from-ends (Some holder) name place = reads (λ s. found_value-ends Undefined (found_of s.heap holder name) place)
+
+get_or-ends : (own : Option Value) (base : Value) (name : List ℕ) (place : Place) → Ends (get_or own base name place)
+get_or-ends (Some v) base name place = gives v
+get_or-ends None base name place = get_from-ends (holder_of base) name place
+
+pub get-ends : (base : Value) (name : List ℕ) (place : Place) → Ends (get base name place)
+get-ends base name place = get_or-ends (own_of base name) base name place
+
+pub test_base-ends : (v : Value) (place : Place) → Ends (test_base v place)
+test_base-ends Undefined place = throw_type_error-ends (codes "not an object") place
+test_base-ends Null place = throw_type_error-ends (codes "not an object") place
+test_base-ends v place = gives tt
+
+written-ends : (place : Place) (result : Result HeapView HeapAnswer) → Ends (written place result)
+written-ends place (Ok h) = with_heap-ends h
+written-ends place (Err heap.BadLength) = throw_error-ends built_in.RangeErrorPrototype (codes "invalid array length") place
+written-ends place (Err e) = fails _ place
+
+put_on-ends : (id : ObjectId) (name : List ℕ) (v : Value) (place : Place) → Ends (put_on id name v place)
+put_on-ends id name v place = reads (λ s. either (is_fixed s.heap id name) (gives tt) (written-ends place (stored s.heap id name v (property_after v))))
+
+pub put-ends : (base : Value) (name : List ℕ) (v : Value) (place : Place) → Ends (put base name v place)
+put-ends (Object id) name v place = put_on-ends id name v place
+put-ends base name v place = gives tt
+
+truth_after-ends : (result : Bool × HeapView) → Ends (truth_after result)
+truth_after-ends result = with_heap-ends result.1 then gives (Truth result.0)
+
+deleted_unless-ends : (f : Found) (id : ObjectId) (name : List ℕ) (place : Place) → Ends (deleted_unless f id name place)
+deleted_unless-ends (found.LeftOut left_out) id name place = halts _
+deleted_unless-ends f id name place = reads (λ s. truth_after-ends (deleted_of s.heap id name))
+
+pub delete_property-ends : (base : Value) (name : List ℕ) (place : Place) → Ends (delete_property base name place)
+delete_property-ends (Object id) name place = reads (λ s. deleted_unless-ends (own_found_in (object_at s.heap id) name) id name place)
+delete_property-ends base name place = gives _
+
+is_there-ends : (f : Found) (place : Place) → Ends (is_there f place)
+is_there-ends found.Absent place = gives _
+is_there-ends (found.Value v) place = gives _
+is_there-ends (found.LeftOut name) place = halts _
+
+pub has_property-ends : (id : ObjectId) (name : List ℕ) (place : Place) → Ends (has_property id name place)
+has_property-ends id name place = reads (λ s. is_there-ends (found_of s.heap id name) place)
+
+-- ---- names
+
+global_value-ends : (name : List ℕ) (f : Found) (place : Place) → Ends (global_value name f place)
+global_value-ends name (found.Value v) place = gives v
+global_value-ends name found.Absent place = throw_error-ends built_in.ReferenceErrorPrototype (name ++ codes " is not defined") place
+global_value-ends name (found.LeftOut left_out) place = halts _
+
+read_bound-ends : (cx : Context) (name : List ℕ) (b : Bound) (place : Place) → Ends (read_bound cx name b place)
+read_bound-ends cx name (bound.Slot up slot) place = reads (λ s. gives (slot_of s.heap (scope_out s.heap up cx.scope) slot))
+read_bound-ends cx name (bound.Own up) place = reads (λ s. gives (slot_of s.heap (scope_out s.heap up cx.scope) 0))
+read_bound-ends cx name bound.Global place = reads (λ s. global_value-ends name (found_of s.heap global_id name) place)
+read_bound-ends cx name bound.Unbound place = gives Undefined
+
+pub read_name-ends : (cx : Context) (x : BoundName) (place : Place) → Ends (read_name cx x place)
+read_name-ends cx x place = read_bound-ends cx x.name x.bound place
+
+read_or_undefined_by-ends : (cx : Context) (x : BoundName) (b : Bound) (place : Place) → Ends (read_or_undefined_by cx x b place)
+read_or_undefined_by-ends cx x bound.Global place = reads (λ s. found_value-ends Undefined (found_of s.heap global_id x.name) place)
+read_or_undefined_by-ends cx x b place = read_name-ends cx x place
+
+pub read_or_undefined-ends : (cx : Context) (x : BoundName) (place : Place) → Ends (read_or_undefined cx x place)
+read_or_undefined-ends cx x place = read_or_undefined_by-ends cx x x.bound place
+
+write_bound-ends : (cx : Context) (name : List ℕ) (b : Bound) (v : Value) (place : Place) → Ends (write_bound cx name b v place)
+write_bound-ends cx name (bound.Slot up slot) v place = reads (λ s. write_slot-ends (scope_out s.heap up cx.scope) slot v)
+write_bound-ends cx name (bound.Own up) v place = gives tt
+write_bound-ends cx name bound.Global v place = put_on-ends global_id name v place
+write_bound-ends cx name bound.Unbound v place = gives tt
+
+pub write_name-ends : (cx : Context) (x : BoundName) (v : Value) (place : Place) → Ends (write_name cx x v place)
+write_name-ends cx x v place = write_bound-ends cx x.name x.bound v place
+
+pub delete_bound-ends : (name : List ℕ) (b : Bound) (place : Place) → Ends (delete_bound name b place)
+delete_bound-ends name bound.Global place = delete_property-ends (Object global_id) name place
+delete_bound-ends name b place = gives (Truth false)
+
+-- ---- functions
+
+pub closure-ends : (number arity : ℕ) (scope : ScopeId) (place : Place) → Ends (closure number arity scope place)
+closure-ends number arity scope place =
+    make-ends (kind.Function number scope) (Some (built_in_object built_in.FunctionPrototype)) place onto (λ f.
+    define-ends f (codes "length") (Number (pos arity)) false false place
+    then (make-ends kind.Plain (Some (built_in_object built_in.ObjectPrototype)) place onto (λ prototype.
+    define-ends prototype (codes "constructor") (Object f) false true place
+    then define-ends f (codes "prototype") (Object prototype) false false place then gives (Object f))))
