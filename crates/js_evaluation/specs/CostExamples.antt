@@ -116,9 +116,9 @@ depth_rows-hold = refl
 
 abbrev cell_rows : List Row
 cell_rows =
-    -- Nineteen arrays of the greatest length, each 100,001 cells, and a last one fill the heap. Without more there are ten
-    -- other cells: six for the function and its global property, four for the scope of the call and its three names. So the
-    -- last array may have 99,970 steps.
+    -- Nineteen arrays of the greatest length, each 100,001 cells, and a last one fill the heap. Without more there are
+    -- ten other cells: six for the function and its global property, four for the scope of the call and its three names.
+    -- So the last array may have 99,970 steps.
     -- these ten
     row 1000 (doing (codes "var i; for (i = 0; i < 19; i++) [].length = 100000; [].length = 99970; return 'x';")) (gives (codes "x")) ∷
     -- with one cell less it is full
@@ -201,8 +201,8 @@ full_rows-hold = refl
 
 abbrev text_rows : List Row
 text_rows =
-    -- A text of 16 units is doubled 14 times, which makes 524,256 units, and then joined with nothing 62 times: 32 units
-    -- are left of the 16,777,216.
+    -- A text of 16 units is doubled 14 times, which makes 524,256 units, and then joined with nothing 62 times: 32
+    -- units are left of the 16,777,216.
     -- a sum of 32 units spends them
     row 2000 (doing (codes "var t = '0123456789abcdef', s = t, i; for (i = 0; i < 14; i++) s += s; for (i = 0; i < 62; i++) s + ''; t + t; return 'x';")) (gives (codes "x")) ∷
     -- and then one more is too many

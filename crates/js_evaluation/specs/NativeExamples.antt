@@ -132,6 +132,20 @@ pub cells_of_errors-hold : AreRightThere cells_of_errors
 unfolding piece_at tokens_from text_from row_of expect name any_word semicolon a_parameter parameters a_statement a_part expression in_parentheses an_argument arguments item_value an_item named_property a_property function_from function_expression new_arguments new_expression primary a_suffix suffixed postfix unary an_operand chain level conditional assignment evaluated block_from block first_value a_declared var_statement one_branch a_branch otherwise if_statement do_statement while_statement optional_expression for_from for_in_from for_var for_value for_statement return_statement throw_statement clause_from a_case clauses switch_statement catch_part finally_part try_statement function_statement statement deeper script_within expression_in optional_in expressions_in items_in properties_in suffix_in suffixes_in operands_in function_in statement_in otherwise_in statements_in declarations_in branches_in start_in target_in clauses_in handler_in rest_of_run filled_objects built_in_objects expression_node statement_node call_node construct_node load_node evaluation digits
 cells_of_errors-hold = refl
 
+-- ---- depth of natives
+
+abbrev depth_of_natives : List Row
+depth_of_natives =
+    -- the entry of a native is open while it calls the script: each entry of f is four parts deeper
+    row 20000 (doing (codes "function f() { return Error({toString: f}); } f();")) (fails code.TooDeep (at 1 49)) ∷
+    -- what a native calls has the place of the call: eleven units to there
+    row 10 (doing (codes "Error({toString: function () { return 'm'; }});")) (fails code.FuelSpent (at 1 39)) ∷
+    []
+
+pub depth_of_natives-hold : AreRightThere depth_of_natives
+unfolding piece_at tokens_from text_from row_of expect name any_word semicolon a_parameter parameters a_statement a_part expression in_parentheses an_argument arguments item_value an_item named_property a_property function_from function_expression new_arguments new_expression primary a_suffix suffixed postfix unary an_operand chain level conditional assignment evaluated block_from block first_value a_declared var_statement one_branch a_branch otherwise if_statement do_statement while_statement optional_expression for_from for_in_from for_var for_value for_statement return_statement throw_statement clause_from a_case clauses switch_statement catch_part finally_part try_statement function_statement statement deeper script_within expression_in optional_in expressions_in items_in properties_in suffix_in suffixes_in operands_in function_in statement_in otherwise_in statements_in declarations_in branches_in start_in target_in clauses_in handler_in rest_of_run filled_objects built_in_objects expression_node statement_node call_node construct_node load_node evaluation digits
+depth_of_natives-hold = refl
+
 -- ---- the texts of natives
 
 abbrev texts_of_natives : List Row

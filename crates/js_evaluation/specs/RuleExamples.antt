@@ -243,11 +243,47 @@ ends_of_statements =
     row 1000 (doing (codes "try { throw 1; } catch (e) { return 1 / 0; } finally { return 'f'; }")) (fails code.DivisionByZero (at 1 72)) ∷
     -- `continue` in a `do` loop goes on with its condition
     row 1000 (doing (codes "var n = 0; do { n++; continue; } while (n < 3); return '' + n;")) (gives (codes "3")) ∷
+    -- the indexes of a prototype come behind the names of the object
+    row 1000 (doing (codes "function P() { this.b = 1; this[2] = 1; this[10] = 1; } P.prototype = {c: 1, 1: 1}; var s = ''; for (var k in new P()) s += k + ' '; return s;")) (gives (codes "2 10 b 1 c ")) ∷
+    -- a name that was deleted is there while a prototype has it
+    row 1000 (doing (codes "function P() { this.a = 1; this.b = 1; } P.prototype = {b: 1}; var o = new P(), s = ''; for (var k in o) { delete o.b; s += k; } return s;")) (gives (codes "ab")) ∷
+    -- without a clause that fits nothing is done
+    row 1000 (doing (codes "switch (1) { case '1': return 'a'; case 2: return 'b'; } return 'c';")) (gives (codes "c")) ∷
     []
 
 pub ends_of_statements-hold : AreRight ends_of_statements
 unfolding piece_at tokens_from text_from row_of expect name any_word semicolon a_parameter parameters a_statement a_part expression in_parentheses an_argument arguments item_value an_item named_property a_property function_from function_expression new_arguments new_expression primary a_suffix suffixed postfix unary an_operand chain level conditional assignment evaluated block_from block first_value a_declared var_statement one_branch a_branch otherwise if_statement do_statement while_statement optional_expression for_from for_in_from for_var for_value for_statement return_statement throw_statement clause_from a_case clauses switch_statement catch_part finally_part try_statement function_statement statement deeper script_within expression_in optional_in expressions_in items_in properties_in suffix_in suffixes_in operands_in function_in statement_in otherwise_in statements_in declarations_in branches_in start_in target_in clauses_in handler_in rest_of_run filled_objects built_in_objects expression_node statement_node call_node construct_node load_node evaluation digits
 ends_of_statements-hold = refl
+
+-- ---- operators (11)
+
+abbrev operators : List Row
+operators =
+    -- the range is looked at first, on any side
+    row 1000 (doing (codes "return '' + ('1.5' - 'Infinity');")) (fails code.NumberRange (at 1 53)) ∷
+    -- and not-a-number before the divisor
+    row 1000 (doing (codes "return '' + ('x' / 0);")) (fails code.NotANumber (at 1 51)) ∷
+    -- a fraction is looked at before not-a-number
+    row 1000 (doing (codes "return '' + ('x' * '1e3');")) (fails code.Fraction (at 1 51)) ∷
+    -- so it is where two values are compared
+    row 1000 (doing (codes "return '' + ('1.5' < 2);")) (fails code.Fraction (at 1 53)) ∷
+    -- and where they are tested for being equal
+    row 1000 (doing (codes "return '' + ('Infinity' == 1);")) (fails code.NumberRange (at 1 58)) ∷
+    -- a fraction has no bits
+    row 1000 (doing (codes "return '' + ('1.5' | 0);")) (fails code.Fraction (at 1 53)) ∷
+    -- what is equal
+    row 1000 (doing (codes "return '' + (null == undefined) + (null == 0) + ('1' == 1) + (true == '1') + ('' == 0) + (undefined == false);")) (gives (codes "truefalsetruetruetruefalse")) ∷
+    -- an object equals itself, and a primitive value that it becomes
+    row 1000 (doing (codes "var o = {valueOf: function () { return 1; }}, p = {valueOf: o.valueOf}; return '' + (o == o) + (o == p) + (o == '1') + (true != o) + (o == null) + (o === 1);")) (gives (codes "truefalsetruefalsefalsefalse")) ∷
+    -- two texts by their units, else numbers; not-a-number is in no order
+    row 1000 (doing (codes "return '' + ('10' < '9') + ('10' < 9) + (undefined < 1) + (undefined >= 1) + (null >= 0) + ('b' > 'a');")) (gives (codes "truefalsefalsefalsetruetrue")) ∷
+    -- a text beside any other value
+    row 1000 (doing (codes "return '' + (1 + '2') + (null + 1) + (true + true) + ('a' + null) + (undefined + 'b');")) (gives (codes "1212anullundefinedb")) ∷
+    []
+
+pub operators-hold : AreRight operators
+unfolding piece_at tokens_from text_from row_of expect name any_word semicolon a_parameter parameters a_statement a_part expression in_parentheses an_argument arguments item_value an_item named_property a_property function_from function_expression new_arguments new_expression primary a_suffix suffixed postfix unary an_operand chain level conditional assignment evaluated block_from block first_value a_declared var_statement one_branch a_branch otherwise if_statement do_statement while_statement optional_expression for_from for_in_from for_var for_value for_statement return_statement throw_statement clause_from a_case clauses switch_statement catch_part finally_part try_statement function_statement statement deeper script_within expression_in optional_in expressions_in items_in properties_in suffix_in suffixes_in operands_in function_in statement_in otherwise_in statements_in declarations_in branches_in start_in target_in clauses_in handler_in rest_of_run filled_objects built_in_objects expression_node statement_node call_node construct_node load_node evaluation digits
+operators-hold = refl
 
 -- ---- the text of an uncaught throw
 
@@ -331,6 +367,10 @@ arrays =
     row 1000 (doing (codes "var a = [1]; a['01'] = 2; a.x = 3; var s = ''; for (var k in a) s += k + ' '; return s + a.length;")) (gives (codes "0 01 x 1")) ∷
     -- an object with an array as its prototype has a length of its own once it is written
     row 1000 (doing (codes "function P() { } P.prototype = [1, 2]; var p = new P(), s = '' + p.length; p.length = 'x'; return s + p.length + P.prototype.length;")) (gives (codes "2x2")) ∷
+    -- 2^32 - 1 is no index
+    row 1000 (doing (codes "var a = []; a[4294967295] = 'x'; return a[4294967295] + a.length;")) (gives (codes "x0")) ∷
+    -- 2^32 - 2 is one, and too large
+    row 1000 (doing (codes "var a = []; a[4294967294] = 'x';")) (fails code.ArrayTooLong (at 1 60)) ∷
     []
 
 pub arrays-hold : AreRight arrays
