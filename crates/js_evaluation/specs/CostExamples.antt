@@ -117,8 +117,8 @@ depth_rows-hold = refl
 abbrev cell_rows : List Row
 cell_rows =
     -- Nineteen arrays of the greatest length, each 100,001 cells, and a last one fill the heap. Without more there are
-    -- ten other cells: six for the function and its global property, four for the scope of the call and its three names.
-    -- So the last array may have 99,970 steps.
+    -- ten other cells: six for the function and its global property, four for the scope of the call and its three
+    -- names. So the last array may have 99,970 steps.
     -- these ten
     row 1000 (doing (codes "var i; for (i = 0; i < 19; i++) [].length = 100000; [].length = 99970; return 'x';")) (gives (codes "x")) ∷
     -- with one cell less it is full

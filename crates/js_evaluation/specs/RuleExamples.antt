@@ -171,6 +171,10 @@ loads =
     row 1000 (codes "var toString; function FindProxyForURL() { var s = ''; for (var k in this) s += k + ' '; return s; }") (gives (codes "FindProxyForURL ")) ∷
     -- what the global name stands for is no function
     row 1000 (codes "var FindProxyForURL = 1;") (fails code.NoEntry (at 0 0)) ∷
+    -- `this` of the load, and of the function of the script, is the global object
+    row 1000 (codes "var x = 'a', t = this; function FindProxyForURL() { return t.x + this.x + (t === this); }") (gives (codes "aatrue")) ∷
+    -- the function of the script has the URL and the host
+    row 1000 (codes "function FindProxyForURL() { return arguments[0] + arguments[1] + arguments.length; }") (gives (codes "http://a/a2")) ∷
     []
 
 pub loads-hold : AreRight loads
@@ -249,6 +253,24 @@ ends_of_statements =
     row 1000 (doing (codes "function P() { this.a = 1; this.b = 1; } P.prototype = {b: 1}; var o = new P(), s = ''; for (var k in o) { delete o.b; s += k; } return s;")) (gives (codes "ab")) ∷
     -- without a clause that fits nothing is done
     row 1000 (doing (codes "switch (1) { case '1': return 'a'; case 2: return 'b'; } return 'c';")) (gives (codes "c")) ∷
+    -- `else if` and `else`
+    row 1000 (doing (codes "var s = ''; for (var i = 0; i < 3; i++) { if (i == 0) s += 'a'; else if (i == 1) s += 'b'; else s += 'c'; } return s;")) (gives (codes "abc")) ∷
+    -- an empty statement and `debugger` do nothing
+    row 1000 (doing (codes "; debugger; { } if (0) ; return 'a';")) (gives (codes "a")) ∷
+    -- `continue` and `break` in a `while` loop
+    row 1000 (doing (codes "var n = 0, s = ''; while (true) { if (++n > 4) break; if (n % 2) continue; s += n; } return s;")) (gives (codes "24")) ∷
+    -- `continue` and `break` in a `for`-`in` loop
+    row 1000 (doing (codes "var s = ''; for (var k in {a: 1, b: 1, c: 1, d: 1}) { if (k == 'b') continue; if (k == 'd') break; s += k; } return s;")) (gives (codes "ac")) ∷
+    -- a `break` leaves the innermost loop alone
+    row 1000 (doing (codes "var s = ''; for (var i = 0; i < 2; i++) { for (;;) { s += i; break; } s += 'o'; } return s;")) (gives (codes "0o1o")) ∷
+    -- a `finally` comes behind a block that ends
+    row 1000 (doing (codes "var s = ''; try { s += 'a'; } catch (e) { s += 'c'; } finally { s += 'f'; } return s;")) (gives (codes "af")) ∷
+    -- a throw goes on behind a `finally`
+    row 1000 (doing (codes "var s = ''; try { try { throw 'a'; } finally { s += 'f'; } } catch (e) { s += e; } return s;")) (gives (codes "fa")) ∷
+    -- a throw in `finally` takes the place of another
+    row 1000 (doing (codes "try { try { throw 'a'; } finally { throw 'b'; } } catch (e) { return e; }")) (gives (codes "b")) ∷
+    -- `this` is the same in a handler
+    row 1000 (doing (codes "var o = {n: 'o', f: function () { try { throw 1; } catch (e) { return this.n; } }}; return o.f();")) (gives (codes "o")) ∷
     []
 
 pub ends_of_statements-hold : AreRight ends_of_statements
@@ -279,6 +301,18 @@ operators =
     row 1000 (doing (codes "return '' + ('10' < '9') + ('10' < 9) + (undefined < 1) + (undefined >= 1) + (null >= 0) + ('b' > 'a');")) (gives (codes "truefalsefalsefalsetruetrue")) ∷
     -- a text beside any other value
     row 1000 (doing (codes "return '' + (1 + '2') + (null + 1) + (true + true) + ('a' + null) + (undefined + 'b');")) (gives (codes "1212anullundefinedb")) ∷
+    -- each operator of an assignment
+    row 1000 (doing (codes "var x = 7, s = ''; s += (x -= 2) + ' ' + (x *= 6) + ' ' + (x /= 3) + ' ' + (x %= 4) + ' ' + (x <<= 5) + ' ' + (x >>= 2) + ' ' + (x >>>= 1) + ' ' + (x |= 5) + ' ' + (x &= 6) + ' ' + (x ^= 7); return s;")) (gives (codes "5 30 10 2 64 16 8 13 4 3")) ∷
+    -- the operators before one operand
+    row 1000 (doing (codes "var i = 5; return '' + +true + -'3' + ~undefined + ~'7' + !'' + !{} + i-- + --i + -null;")) (gives (codes "1-3-1-8truefalse530")) ∷
+    -- `~` of a fraction has its place
+    row 1000 (doing (codes "return '' + ~'1.5';")) (fails code.Fraction (at 1 46)) ∷
+    -- the types of values
+    row 1000 (doing (codes "return typeof null + typeof [] + typeof typeof 1 + typeof 1 + typeof true + typeof void 0 + typeof function () { };")) (gives (codes "objectobjectstringnumberbooleanundefinedfunction")) ∷
+    -- `&&` and `||` give an operand, and the first that decides
+    row 1000 (doing (codes "return (0 || 'a') + ('' && x) + (1 && 'b') + ('c' || x) + (0 || '' || 'd') + (1 && 2 && 'e');")) (gives (codes "abcde")) ∷
+    -- the prototype of a function is no instance of it
+    row 1000 (doing (codes "function P() { } function Q() { } Q.prototype = new P(); return '' + (P.prototype instanceof P) + (new Q() instanceof P) + (new P() instanceof Q);")) (gives (codes "falsetruefalse")) ∷
     []
 
 pub operators-hold : AreRight operators
