@@ -203,12 +203,8 @@ abbrev text_rows : List Row
 text_rows =
     -- A text of 16 units is doubled 14 times, which makes 524,256 units, and then joined with nothing 62 times: 32
     -- units are left of the 16,777,216.
-    -- a sum of 32 units spends them
-    row 2000 (doing (codes "var t = '0123456789abcdef', s = t, i; for (i = 0; i < 14; i++) s += s; for (i = 0; i < 62; i++) s + ''; t + t; return 'x';")) (gives (codes "x")) ∷
-    -- and then one more is too many
-    row 2000 (doing (codes "var t = '0123456789abcdef', s = t, i; for (i = 0; i < 14; i++) s += s; for (i = 0; i < 62; i++) s + ''; t + t; 'a' + '';")) (fails code.TextSpent (at 1 149)) ∷
-    -- each name that `for`-`in` lists is a text that is made: here the third one is too many
-    row 2000 (doing (codes "var t = '0123456789abcdef', s = t, i; for (i = 0; i < 14; i++) s += s; for (i = 0; i < 62; i++) s + ''; for (var k in {'0123456789abcdef': 1, '0123456789ABCDEF': 2, z: 3}) return 'x';")) (fails code.TextSpent (at 1 138)) ∷
+    -- a sum spends 16 of them and a name that `for`-`in` lists the others; one more is too many
+    row 2000 (doing (codes "var t = '0123456789abcdef', s = t, i; for (i = 0; i < 14; i++) s += s; for (i = 0; i < 62; i++) s + ''; t + ''; typeof t; t[0]; for (var k in {'0123456789abcdef': 1}); 'a' + '';")) (fails code.TextSpent (at 1 206)) ∷
     []
 
 pub text_rows-hold : AreRight text_rows
