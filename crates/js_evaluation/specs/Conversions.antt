@@ -51,7 +51,8 @@ module _ (call : Call) where
   abbrev pub call_value : Value → Value → List Value → Place → Does Value
   call_value f this arguments place = reading (λ s. call_value_if (is_callable s.heap f) f this arguments place)
 
-  -- The methods are asked in their order. One counts where it can be called, and a primitive value that it gives is taken.
+  -- The methods are asked in their order. One counts where it can be called, and a primitive value that it gives is
+  -- taken.
   abbrev pub primitive_by : List (List ℕ) → ObjectId → Place → Does Value
   primitive_by [] id place = throw_type_error (codes "not an object") place
   primitive_by (m ∷ ms) id place = get (Object id) m place >>= (λ f. reading (λ s.
@@ -105,7 +106,8 @@ module _ (call : Call) where
   operated (Ok v) place = counted v place
   operated (Err e) place = fault (convert_fault e) place
 
-  -- an object is made primitive for `==` where the other side is a primitive value that isn't undefined or null (11.9.3)
+  -- an object is made primitive for `==` where the other side is a primitive value that isn't undefined or null
+  -- (11.9.3)
   abbrev pub is_compared : Value → Value → Bool
   is_compared a b = (is_object a && not (is_object b || is_nothing b)) || (is_object b && not (is_object a || is_nothing a))
 

@@ -102,8 +102,10 @@ fuel_rows-hold = refl
 
 abbrev depth_rows : List Row
 depth_rows =
-    -- Each entry of f is three parts deeper. The 2,001st open part is the expression in the 666th entry of f.
-    row 20000 (doing (codes "function f() { f(); } f();")) (fails code.TooDeep (at 1 49)) ∷
+    -- Each entry of f is three parts deeper. The 2,001st open part is the call in the 666th entry of f.
+    row 20000 (doing (codes "function f() { return (f)(); } f();")) (fails code.TooDeep (at 1 56)) ∷
+    -- A target is closed before its value, so each entry of f is four parts deeper: the 2,001st is a statement.
+    row 20000 (doing (codes "var o = {}; function f() { return o.x = (f)(); } f();")) (fails code.TooDeep (at 1 61)) ∷
     []
 
 pub depth_rows-hold : AreRight depth_rows
@@ -114,9 +116,9 @@ depth_rows-hold = refl
 
 abbrev cell_rows : List Row
 cell_rows =
-    -- Nineteen arrays of the greatest length, each 100,001 cells, and a last one fill the heap. Without more there are ten
-    -- other cells: six for the function and its global property, four for the scope of the call and its three names. So the
-    -- last array may have 99,970 steps.
+    -- Nineteen arrays of the greatest length, each 100,001 cells, and a last one fill the heap. Without more there are
+    -- ten other cells: six for the function and its global property, four for the scope of the call and its three
+    -- names. So the last array may have 99,970 steps.
     -- these ten
     row 1000 (doing (codes "var i; for (i = 0; i < 19; i++) [].length = 100000; [].length = 99970; return 'x';")) (gives (codes "x")) ∷
     -- with one cell less it is full
@@ -162,3 +164,49 @@ cell_rows =
 pub cell_rows-hold : AreRight cell_rows
 unfolding piece_at tokens_from text_from row_of expect name any_word semicolon a_parameter parameters a_statement a_part expression in_parentheses an_argument arguments item_value an_item named_property a_property function_from function_expression new_arguments new_expression primary a_suffix suffixed postfix unary an_operand chain level conditional assignment evaluated block_from block first_value a_declared var_statement one_branch a_branch otherwise if_statement do_statement while_statement optional_expression for_from for_in_from for_var for_value for_statement return_statement throw_statement clause_from a_case clauses switch_statement catch_part finally_part try_statement function_statement statement deeper script_within expression_in optional_in expressions_in items_in properties_in suffix_in suffixes_in operands_in function_in statement_in otherwise_in statements_in declarations_in branches_in start_in target_in clauses_in handler_in rest_of_run filled_objects built_in_objects expression_node statement_node call_node construct_node load_node evaluation digits
 cell_rows-hold = refl
+
+-- ---- a full heap
+
+abbrev full_rows : List Row
+full_rows =
+    -- Where the heap is full each of these is refused in its own place. Beside the arrays there are six cells for the
+    -- function and its global property, five for the scope and its four names, and five for the function f.
+    -- the scope of a call, at the suffix
+    row 1000 (doing (codes "var i; function f() { } for (i = 0; i < 19; i++) [].length = 100000; [].length = 99964; f();")) (fails code.HeapFull (at 1 123)) ∷
+    -- the object of `new`, at the word
+    row 1000 (doing (codes "var i; function f() { } for (i = 0; i < 19; i++) [].length = 100000; [].length = 99964; new f();")) (fails code.HeapFull (at 1 122)) ∷
+    -- a function, at its first word
+    row 1000 (doing (codes "var i; function f() { } for (i = 0; i < 19; i++) [].length = 100000; [].length = 99964; i = function () { };")) (fails code.HeapFull (at 1 126)) ∷
+    -- an array, at its bracket
+    row 1000 (doing (codes "var i; function f() { } for (i = 0; i < 19; i++) [].length = 100000; [].length = 99964; i = [];")) (fails code.HeapFull (at 1 126)) ∷
+    -- and an object at its own
+    row 1000 (doing (codes "var i; function f() { } for (i = 0; i < 19; i++) [].length = 100000; [].length = 99964; i = {};")) (fails code.HeapFull (at 1 126)) ∷
+    -- the scope of a handler, at `try`
+    row 1000 (doing (codes "var i; function f() { } for (i = 0; i < 19; i++) [].length = 100000; [].length = 99964; try { throw 1; } catch (e) { }")) (fails code.HeapFull (at 1 122)) ∷
+    -- an error of the engine, in the place of the throw
+    row 1000 (doing (codes "var i; function f() { } for (i = 0; i < 19; i++) [].length = 100000; [].length = 99964; try { null.x; } catch (e) { }")) (fails code.HeapFull (at 1 132)) ∷
+    -- a property that is written, at the operator
+    row 1000 (doing (codes "var i; function f() { } for (i = 0; i < 19; i++) [].length = 100000; [].length = 99964; f.x = 1;")) (fails code.HeapFull (at 1 126)) ∷
+    -- and a name that stands for nothing
+    row 1000 (doing (codes "var i; function f() { } for (i = 0; i < 19; i++) [].length = 100000; [].length = 99964; x = 1;")) (fails code.HeapFull (at 1 124)) ∷
+    -- what is there already is written without a cell
+    row 1000 (doing (codes "var i; function f() { } for (i = 0; i < 19; i++) [].length = 100000; [].length = 99964; f.prototype = 1; i = 'x'; return i;")) (gives (codes "x")) ∷
+    []
+
+pub full_rows-hold : AreRight full_rows
+unfolding piece_at tokens_from text_from row_of expect name any_word semicolon a_parameter parameters a_statement a_part expression in_parentheses an_argument arguments item_value an_item named_property a_property function_from function_expression new_arguments new_expression primary a_suffix suffixed postfix unary an_operand chain level conditional assignment evaluated block_from block first_value a_declared var_statement one_branch a_branch otherwise if_statement do_statement while_statement optional_expression for_from for_in_from for_var for_value for_statement return_statement throw_statement clause_from a_case clauses switch_statement catch_part finally_part try_statement function_statement statement deeper script_within expression_in optional_in expressions_in items_in properties_in suffix_in suffixes_in operands_in function_in statement_in otherwise_in statements_in declarations_in branches_in start_in target_in clauses_in handler_in rest_of_run filled_objects built_in_objects expression_node statement_node call_node construct_node load_node evaluation digits
+full_rows-hold = refl
+
+-- ---- texts that are made
+
+abbrev text_rows : List Row
+text_rows =
+    -- A text of 16 units is doubled 14 times, which makes 524,256 units, and then joined with nothing 62 times: 32
+    -- units are left of the 16,777,216.
+    -- a sum spends 16 of them and a name that `for`-`in` lists the others; one more is too many
+    row 2000 (doing (codes "var t = '0123456789abcdef', s = t, i; for (i = 0; i < 14; i++) s += s; for (i = 0; i < 62; i++) s + ''; t + ''; typeof t; t[0]; for (var k in {'0123456789abcdef': 1}); 'a' + '';")) (fails code.TextSpent (at 1 206)) ∷
+    []
+
+pub text_rows-hold : AreRight text_rows
+unfolding piece_at tokens_from text_from row_of expect name any_word semicolon a_parameter parameters a_statement a_part expression in_parentheses an_argument arguments item_value an_item named_property a_property function_from function_expression new_arguments new_expression primary a_suffix suffixed postfix unary an_operand chain level conditional assignment evaluated block_from block first_value a_declared var_statement one_branch a_branch otherwise if_statement do_statement while_statement optional_expression for_from for_in_from for_var for_value for_statement return_statement throw_statement clause_from a_case clauses switch_statement catch_part finally_part try_statement function_statement statement deeper script_within expression_in optional_in expressions_in items_in properties_in suffix_in suffixes_in operands_in function_in statement_in otherwise_in statements_in declarations_in branches_in start_in target_in clauses_in handler_in rest_of_run filled_objects built_in_objects expression_node statement_node call_node construct_node load_node evaluation digits
+text_rows-hold = refl

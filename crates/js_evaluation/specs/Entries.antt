@@ -1,5 +1,5 @@
--- Entries: the call of a function, of a native, `new`, and the load of a script (ECMA-262 5.1, sections 10.4, 10.5, 13.2
--- and 14). Each rule is what comes behind the charge for the entry.
+-- Entries: the call of a function, of a native, `new`, and the load of a script (ECMA-262 5.1, sections 10.4, 10.5,
+-- 13.2 and 14). Each rule is what comes behind the charge for the entry.
 use Rattle.std.specs.Prelude.{ℕ, suc, pos, List, [], ◌∷◌, length, map, Bool, true, false, ◌||◌, if◌then◌else◌, Option, Some, None, slice_get, codes}
 use Rattle.std.specs.Fmt.{decimal}
 use Rattle.std.specs.List.{list_any}
@@ -133,8 +133,8 @@ module _ (functions : List FunctionTree) where
     is_left_out (content.LeftOut t) = true
     is_left_out (content.Value v) = false
 
-    -- whether a global property that was there gives way to a function: one that can be deleted, a listed one (which can
-    -- be written), and one that is left out
+    -- whether a global property that was there gives way to a function: one that can be deleted, a listed one, which
+    -- can be written, and one that is left out
     abbrev pub gives_way : Property → Bool
     gives_way old = old.deletable || old.listed || is_left_out old.content
 

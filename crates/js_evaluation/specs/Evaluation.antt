@@ -30,7 +30,8 @@ use Rattle.js_evaluation.specs.Expressions.{expression_place, expression_node, t
 use Rattle.js_evaluation.specs.Statements.{statement_place, statement_node, statements_from}
 use Rattle.js_evaluation.specs.Entries.{call_node, construct_node, load_node}
 
--- What can be open: an expression, an expression as a target, a statement, a call, a construction, the load of a script.
+-- What can be open: an expression, an expression as a target, a statement, a call, a construction, the load of a
+-- script.
 pub data Part : Type 0 where
   expression_part : Context → ExpressionTree → Part
   target_part : Context → ExpressionTree → Part

@@ -4,6 +4,7 @@ pub mod Entries
 pub mod Evaluation
 pub mod Examples
 pub mod Expressions
+pub mod NativeExamples
 pub mod Natives
 pub mod Objects
 pub mod RuleExamples

@@ -1,5 +1,5 @@
 -- Worked examples of the rules of evaluation: order, places, names and ends.
-use Rattle.std.specs.Prelude.{List, [], ◌∷◌, codes, refl}
+use Rattle.std.specs.Prelude.{ℕ, zero, suc, List, [], ◌∷◌, ◌++◌, codes, refl}
 use Rattle.js_evaluation.specs.declared.fault.FaultCode.TheVariants as code
 use Rattle.js_evaluation.specs.Expressions.{expression_node}
 use Rattle.js_evaluation.specs.Statements.{statement_node}
@@ -15,6 +15,11 @@ use Rattle.js_grammar.specs.Statements.{evaluated, block_from, block, first_valu
 use Rattle.js_binding.specs.Resolved.{expression_in, optional_in, expressions_in, items_in, properties_in, suffix_in, suffixes_in, operands_in, function_in, statement_in, otherwise_in, statements_in, declarations_in, branches_in, start_in, target_in, clauses_in, handler_in}
 use Rattle.run_trees.specs.WholeRun.{rest_of_run}
 use Rattle.object_heap.specs.Fresh.{filled_objects, built_in_objects}
+
+-- so many copies of a text
+abbrev repeated : ℕ → List ℕ → List ℕ
+repeated zero t = []
+repeated (suc n) t = t ++ repeated n t
 
 -- ---- throws of the engine, and their places
 
@@ -62,6 +67,14 @@ throws_and_places =
     row 1000 (doing (codes "return '' + -'1.5';")) (fails code.Fraction (at 1 46)) ∷
     -- in a chain the place is that of the operator
     row 1000 (doing (codes "return '' + 4 / 2 / 3;")) (fails code.Fraction (at 1 52)) ∷
+    -- a property of undefined by its index has the place of the bracket
+    row 1000 (doing (codes "var o = {}; o.a['b'];")) (fails_with code.Uncaught (at 1 49) (codes "TypeError: not an object")) ∷
+    -- and so has one that is left out
+    row 1000 (doing (codes "Math['sqrt'];")) (fails_with code.Unsupported (at 1 38) (codes "Math.sqrt")) ∷
+    -- a write by `for`-`in` has the place of the statement
+    row 1000 (doing (codes "var a = []; for (a.length in {x: 1});")) (fails_with code.Uncaught (at 1 46) (codes "RangeError: invalid array length")) ∷
+    -- its target is evaluated in its own places
+    row 1000 (doing (codes "for (x[0] in {a: 1});")) (fails_with code.Uncaught (at 1 39) (codes "ReferenceError: x is not defined")) ∷
     []
 
 pub throws_and_places-hold : AreRight throws_and_places
@@ -158,6 +171,10 @@ loads =
     row 1000 (codes "var toString; function FindProxyForURL() { var s = ''; for (var k in this) s += k + ' '; return s; }") (gives (codes "FindProxyForURL ")) ∷
     -- what the global name stands for is no function
     row 1000 (codes "var FindProxyForURL = 1;") (fails code.NoEntry (at 0 0)) ∷
+    -- `this` of the load, and of the function of the script, is the global object
+    row 1000 (codes "var x = 'a', t = this; function FindProxyForURL() { return t.x + this.x + (t === this); }") (gives (codes "aatrue")) ∷
+    -- the function of the script has the URL and the host
+    row 1000 (codes "function FindProxyForURL() { return arguments[0] + arguments[1] + arguments.length; }") (gives (codes "http://a/a2")) ∷
     []
 
 pub loads-hold : AreRight loads
@@ -230,11 +247,77 @@ ends_of_statements =
     row 1000 (doing (codes "try { throw 1; } catch (e) { return 1 / 0; } finally { return 'f'; }")) (fails code.DivisionByZero (at 1 72)) ∷
     -- `continue` in a `do` loop goes on with its condition
     row 1000 (doing (codes "var n = 0; do { n++; continue; } while (n < 3); return '' + n;")) (gives (codes "3")) ∷
+    -- the indexes of a prototype come behind the names of the object
+    row 1000 (doing (codes "function P() { this.b = 1; this[2] = 1; this[10] = 1; } P.prototype = {c: 1, 1: 1}; var s = ''; for (var k in new P()) s += k + ' '; return s;")) (gives (codes "2 10 b 1 c ")) ∷
+    -- a name that was deleted is there while a prototype has it
+    row 1000 (doing (codes "function P() { this.a = 1; this.b = 1; } P.prototype = {b: 1}; var o = new P(), s = ''; for (var k in o) { delete o.b; s += k; } return s;")) (gives (codes "ab")) ∷
+    -- without a clause that fits nothing is done
+    row 1000 (doing (codes "switch (1) { case '1': return 'a'; case 2: return 'b'; } return 'c';")) (gives (codes "c")) ∷
+    -- `else if` and `else`
+    row 1000 (doing (codes "var s = ''; for (var i = 0; i < 3; i++) { if (i == 0) s += 'a'; else if (i == 1) s += 'b'; else s += 'c'; } return s;")) (gives (codes "abc")) ∷
+    -- an empty statement and `debugger` do nothing
+    row 1000 (doing (codes "; debugger; { } if (0) ; return 'a';")) (gives (codes "a")) ∷
+    -- `continue` and `break` in a `while` loop
+    row 1000 (doing (codes "var n = 0, s = ''; while (true) { if (++n > 4) break; if (n % 2) continue; s += n; } return s;")) (gives (codes "24")) ∷
+    -- `continue` and `break` in a `for`-`in` loop
+    row 1000 (doing (codes "var s = ''; for (var k in {a: 1, b: 1, c: 1, d: 1}) { if (k == 'b') continue; if (k == 'd') break; s += k; } return s;")) (gives (codes "ac")) ∷
+    -- a `break` leaves the innermost loop alone
+    row 1000 (doing (codes "var s = ''; for (var i = 0; i < 2; i++) { for (;;) { s += i; break; } s += 'o'; } return s;")) (gives (codes "0o1o")) ∷
+    -- a `finally` comes behind a block that ends
+    row 1000 (doing (codes "var s = ''; try { s += 'a'; } catch (e) { s += 'c'; } finally { s += 'f'; } return s;")) (gives (codes "af")) ∷
+    -- a throw goes on behind a `finally`
+    row 1000 (doing (codes "var s = ''; try { try { throw 'a'; } finally { s += 'f'; } } catch (e) { s += e; } return s;")) (gives (codes "fa")) ∷
+    -- a throw in `finally` takes the place of another
+    row 1000 (doing (codes "try { try { throw 'a'; } finally { throw 'b'; } } catch (e) { return e; }")) (gives (codes "b")) ∷
+    -- `this` is the same in a handler
+    row 1000 (doing (codes "var o = {n: 'o', f: function () { try { throw 1; } catch (e) { return this.n; } }}; return o.f();")) (gives (codes "o")) ∷
     []
 
 pub ends_of_statements-hold : AreRight ends_of_statements
 unfolding piece_at tokens_from text_from row_of expect name any_word semicolon a_parameter parameters a_statement a_part expression in_parentheses an_argument arguments item_value an_item named_property a_property function_from function_expression new_arguments new_expression primary a_suffix suffixed postfix unary an_operand chain level conditional assignment evaluated block_from block first_value a_declared var_statement one_branch a_branch otherwise if_statement do_statement while_statement optional_expression for_from for_in_from for_var for_value for_statement return_statement throw_statement clause_from a_case clauses switch_statement catch_part finally_part try_statement function_statement statement deeper script_within expression_in optional_in expressions_in items_in properties_in suffix_in suffixes_in operands_in function_in statement_in otherwise_in statements_in declarations_in branches_in start_in target_in clauses_in handler_in rest_of_run filled_objects built_in_objects expression_node statement_node call_node construct_node load_node evaluation digits
 ends_of_statements-hold = refl
+
+-- ---- operators (11)
+
+abbrev operators : List Row
+operators =
+    -- the range is looked at first, on any side
+    row 1000 (doing (codes "return '' + ('1.5' - 'Infinity');")) (fails code.NumberRange (at 1 53)) ∷
+    -- and not-a-number before the divisor
+    row 1000 (doing (codes "return '' + ('x' / 0);")) (fails code.NotANumber (at 1 51)) ∷
+    -- a fraction is looked at before not-a-number
+    row 1000 (doing (codes "return '' + ('x' * '1e3');")) (fails code.Fraction (at 1 51)) ∷
+    -- so it is where two values are compared
+    row 1000 (doing (codes "return '' + ('1.5' < 2);")) (fails code.Fraction (at 1 53)) ∷
+    -- and where they are tested for being equal
+    row 1000 (doing (codes "return '' + ('Infinity' == 1);")) (fails code.NumberRange (at 1 58)) ∷
+    -- a fraction has no bits
+    row 1000 (doing (codes "return '' + ('1.5' | 0);")) (fails code.Fraction (at 1 53)) ∷
+    -- what is equal
+    row 1000 (doing (codes "return '' + (null == undefined) + (null == 0) + ('1' == 1) + (true == '1') + ('' == 0) + (undefined == false);")) (gives (codes "truefalsetruetruetruefalse")) ∷
+    -- an object equals itself, and a primitive value that it becomes
+    row 1000 (doing (codes "var o = {valueOf: function () { return 1; }}, p = {valueOf: o.valueOf}; return '' + (o == o) + (o == p) + (o == '1') + (true != o) + (o == null) + (o === 1);")) (gives (codes "truefalsetruefalsefalsefalse")) ∷
+    -- two texts by their units, else numbers; not-a-number is in no order
+    row 1000 (doing (codes "return '' + ('10' < '9') + ('10' < 9) + (undefined < 1) + (undefined >= 1) + (null >= 0) + ('b' > 'a');")) (gives (codes "truefalsefalsefalsetruetrue")) ∷
+    -- a text beside any other value
+    row 1000 (doing (codes "return '' + (1 + '2') + (null + 1) + (true + true) + ('a' + null) + (undefined + 'b');")) (gives (codes "1212anullundefinedb")) ∷
+    -- each operator of an assignment
+    row 1000 (doing (codes "var x = 7, s = ''; s += (x -= 2) + ' ' + (x *= 6) + ' ' + (x /= 3) + ' ' + (x %= 4) + ' ' + (x <<= 5) + ' ' + (x >>= 2) + ' ' + (x >>>= 1) + ' ' + (x |= 5) + ' ' + (x &= 6) + ' ' + (x ^= 7); return s;")) (gives (codes "5 30 10 2 64 16 8 13 4 3")) ∷
+    -- the operators before one operand
+    row 1000 (doing (codes "var i = 5; return '' + +true + -'3' + ~undefined + ~'7' + !'' + !{} + i-- + --i + -null;")) (gives (codes "1-3-1-8truefalse530")) ∷
+    -- `~` of a fraction has its place
+    row 1000 (doing (codes "return '' + ~'1.5';")) (fails code.Fraction (at 1 46)) ∷
+    -- the types of values
+    row 1000 (doing (codes "return typeof null + typeof [] + typeof typeof 1 + typeof 1 + typeof true + typeof void 0 + typeof function () { };")) (gives (codes "objectobjectstringnumberbooleanundefinedfunction")) ∷
+    -- `&&` and `||` give an operand, and the first that decides
+    row 1000 (doing (codes "return (0 || 'a') + ('' && x) + (1 && 'b') + ('c' || x) + (0 || '' || 'd') + (1 && 2 && 'e');")) (gives (codes "abcde")) ∷
+    -- the prototype of a function is no instance of it
+    row 1000 (doing (codes "function P() { } function Q() { } Q.prototype = new P(); return '' + (P.prototype instanceof P) + (new Q() instanceof P) + (new P() instanceof Q);")) (gives (codes "falsetruefalse")) ∷
+    []
+
+pub operators-hold : AreRight operators
+unfolding piece_at tokens_from text_from row_of expect name any_word semicolon a_parameter parameters a_statement a_part expression in_parentheses an_argument arguments item_value an_item named_property a_property function_from function_expression new_arguments new_expression primary a_suffix suffixed postfix unary an_operand chain level conditional assignment evaluated block_from block first_value a_declared var_statement one_branch a_branch otherwise if_statement do_statement while_statement optional_expression for_from for_in_from for_var for_value for_statement return_statement throw_statement clause_from a_case clauses switch_statement catch_part finally_part try_statement function_statement statement deeper script_within expression_in optional_in expressions_in items_in properties_in suffix_in suffixes_in operands_in function_in statement_in otherwise_in statements_in declarations_in branches_in start_in target_in clauses_in handler_in rest_of_run filled_objects built_in_objects expression_node statement_node call_node construct_node load_node evaluation digits
+operators-hold = refl
 
 -- ---- the text of an uncaught throw
 
@@ -256,8 +339,88 @@ uncaught_texts =
     row 1000 (doing (codes "try { null.x; } catch (e) { delete e.message; throw e; }")) (fails_with code.Uncaught (at 1 80) (codes "TypeError")) ∷
     -- a throw of the load has its place too
     row 1000 (codes "throw 'l';") (fails_with code.Uncaught (at 1 1) (codes "l")) ∷
+    -- a property of undefined by its index has the place of the bracket
+    row 1000 (doing (codes "var o = {}; o.a['b'];")) (fails_with code.Uncaught (at 1 49) (codes "TypeError: not an object")) ∷
+    -- and so has one that is left out
+    row 1000 (doing (codes "Math['sqrt'];")) (fails_with code.Unsupported (at 1 38) (codes "Math.sqrt")) ∷
+    -- a write by `for`-`in` has the place of the statement
+    row 1000 (doing (codes "var a = []; for (a.length in {x: 1});")) (fails_with code.Uncaught (at 1 46) (codes "RangeError: invalid array length")) ∷
+    -- its target is evaluated in its own places
+    row 1000 (doing (codes "for (x[0] in {a: 1});")) (fails_with code.Uncaught (at 1 39) (codes "ReferenceError: x is not defined")) ∷
     []
 
 pub uncaught_texts-hold : AreRight uncaught_texts
 unfolding piece_at tokens_from text_from row_of expect name any_word semicolon a_parameter parameters a_statement a_part expression in_parentheses an_argument arguments item_value an_item named_property a_property function_from function_expression new_arguments new_expression primary a_suffix suffixed postfix unary an_operand chain level conditional assignment evaluated block_from block first_value a_declared var_statement one_branch a_branch otherwise if_statement do_statement while_statement optional_expression for_from for_in_from for_var for_value for_statement return_statement throw_statement clause_from a_case clauses switch_statement catch_part finally_part try_statement function_statement statement deeper script_within expression_in optional_in expressions_in items_in properties_in suffix_in suffixes_in operands_in function_in statement_in otherwise_in statements_in declarations_in branches_in start_in target_in clauses_in handler_in rest_of_run filled_objects built_in_objects expression_node statement_node call_node construct_node load_node evaluation digits
 uncaught_texts-hold = refl
+
+-- ---- scopes
+
+abbrev scopes : List Row
+scopes =
+    -- a handler within a function expression with a name, and a function in it: each scope is found outward
+    row 1000 (doing (codes "var f = function g(n) { try { throw n; } catch (e) { return (function () { return typeof g + e + n; })(); } }; return f('x');")) (gives (codes "functionxx")) ∷
+    -- the own name keeps its value as a target of `for`-`in`
+    row 1000 (doing (codes "var f = function g() { for (g in {a: 1}); return typeof g; }; return f();")) (gives (codes "function")) ∷
+    -- no name of a scope can be deleted
+    row 1000 (doing (codes "var f = function g(p) { var v; try { throw 1; } catch (e) { return '' + delete g + delete p + delete v + delete e + delete arguments + delete nothing; } }; return f();")) (gives (codes "falsefalsefalsefalsefalsetrue")) ∷
+    -- each call has a scope of its own
+    row 1000 (doing (codes "function f(n) { return n == 0 ? '' : f(n - 1) + n; } return f(3);")) (gives (codes "123")) ∷
+    -- what is no reference has nothing to delete, and is evaluated (11.4.1)
+    row 1000 (doing (codes "var s = 'a'; return '' + delete (s += 'b') + delete 1 + delete this + s;")) (gives (codes "truetruetrueab")) ∷
+    []
+
+pub scopes-hold : AreRight scopes
+unfolding piece_at tokens_from text_from row_of expect name any_word semicolon a_parameter parameters a_statement a_part expression in_parentheses an_argument arguments item_value an_item named_property a_property function_from function_expression new_arguments new_expression primary a_suffix suffixed postfix unary an_operand chain level conditional assignment evaluated block_from block first_value a_declared var_statement one_branch a_branch otherwise if_statement do_statement while_statement optional_expression for_from for_in_from for_var for_value for_statement return_statement throw_statement clause_from a_case clauses switch_statement catch_part finally_part try_statement function_statement statement deeper script_within expression_in optional_in expressions_in items_in properties_in suffix_in suffixes_in operands_in function_in statement_in otherwise_in statements_in declarations_in branches_in start_in target_in clauses_in handler_in rest_of_run filled_objects built_in_objects expression_node statement_node call_node construct_node load_node evaluation digits
+scopes-hold = refl
+
+-- ---- primitive values as objects
+
+abbrev primitive_values : List Row
+primitive_values =
+    -- a write to a property of a primitive value is ignored, and gives the value
+    row 1000 (doing (codes "var s = 'abc'; return '' + (s.length = 5) + s.length + (s[0] = 'x') + s + (1).x + (true.x = 2);")) (gives (codes "53xabcundefined2")) ∷
+    -- the length and the units of a text can't be deleted
+    row 1000 (doing (codes "var s = 'ab'; return '' + delete s.length + delete s[1] + delete s[2] + delete s.x + delete (1).x;")) (gives (codes "falsefalsetruetruetrue")) ∷
+    -- past the end of a text there is nothing
+    row 1000 (doing (codes "return '' + 'ab'[2] + 'ab'['01'] + 'ab'[-1];")) (gives (codes "undefinedundefinedundefined")) ∷
+    []
+
+pub primitive_values-hold : AreRight primitive_values
+unfolding piece_at tokens_from text_from row_of expect name any_word semicolon a_parameter parameters a_statement a_part expression in_parentheses an_argument arguments item_value an_item named_property a_property function_from function_expression new_arguments new_expression primary a_suffix suffixed postfix unary an_operand chain level conditional assignment evaluated block_from block first_value a_declared var_statement one_branch a_branch otherwise if_statement do_statement while_statement optional_expression for_from for_in_from for_var for_value for_statement return_statement throw_statement clause_from a_case clauses switch_statement catch_part finally_part try_statement function_statement statement deeper script_within expression_in optional_in expressions_in items_in properties_in suffix_in suffixes_in operands_in function_in statement_in otherwise_in statements_in declarations_in branches_in start_in target_in clauses_in handler_in rest_of_run filled_objects built_in_objects expression_node statement_node call_node construct_node load_node evaluation digits
+primitive_values-hold = refl
+
+-- ---- arrays (15.4.5)
+
+abbrev arrays : List Row
+arrays =
+    -- a shorter length takes the elements behind it away
+    row 1000 (doing (codes "var a = [1, 2, 3]; a.length = 1; a.length = 3; return '' + a[0] + a[1] + a.length + (2 in a);")) (gives (codes "1undefined3false")) ∷
+    -- the length of an array isn't listed and can't be deleted, an element can
+    row 1000 (doing (codes "var a = [1, 2], s = ''; s += delete a.length; s += delete a[1]; for (var k in a) s += k; return s + a.length;")) (gives (codes "falsetrue02")) ∷
+    -- a name that is no index leaves the length
+    row 1000 (doing (codes "var a = [1]; a['01'] = 2; a.x = 3; var s = ''; for (var k in a) s += k + ' '; return s + a.length;")) (gives (codes "0 01 x 1")) ∷
+    -- an object with an array as its prototype has a length of its own once it is written
+    row 1000 (doing (codes "function P() { } P.prototype = [1, 2]; var p = new P(), s = '' + p.length; p.length = 'x'; return s + p.length + P.prototype.length;")) (gives (codes "2x2")) ∷
+    -- 2^32 - 1 is no index
+    row 1000 (doing (codes "var a = []; a[4294967295] = 'x'; return a[4294967295] + a.length;")) (gives (codes "x0")) ∷
+    -- 2^32 - 2 is one, and too large
+    row 1000 (doing (codes "var a = []; a[4294967294] = 'x';")) (fails code.ArrayTooLong (at 1 60)) ∷
+    []
+
+pub arrays-hold : AreRight arrays
+unfolding piece_at tokens_from text_from row_of expect name any_word semicolon a_parameter parameters a_statement a_part expression in_parentheses an_argument arguments item_value an_item named_property a_property function_from function_expression new_arguments new_expression primary a_suffix suffixed postfix unary an_operand chain level conditional assignment evaluated block_from block first_value a_declared var_statement one_branch a_branch otherwise if_statement do_statement while_statement optional_expression for_from for_in_from for_var for_value for_statement return_statement throw_statement clause_from a_case clauses switch_statement catch_part finally_part try_statement function_statement statement deeper script_within expression_in optional_in expressions_in items_in properties_in suffix_in suffixes_in operands_in function_in statement_in otherwise_in statements_in declarations_in branches_in start_in target_in clauses_in handler_in rest_of_run filled_objects built_in_objects expression_node statement_node call_node construct_node load_node evaluation digits
+arrays-hold = refl
+
+-- ---- texts
+
+abbrev long_texts : List Row
+long_texts =
+    -- a sum of more than 262,144 units, at the operator
+    row 1000 (doing (codes "var s = '0123456789abcdef'; for (;;) s += s;")) (fails code.StringTooLong (at 1 73)) ∷
+    -- of the text of a throw the first 1,024 units are kept
+    row 1000 (doing (codes "var s = '01234567'; for (var i = 0; i < 8; i++) s += s; throw s;")) (fails_with code.Uncaught (at 1 90) (repeated 128 (codes "01234567"))) ∷
+    []
+
+pub long_texts-hold : AreRight long_texts
+unfolding piece_at tokens_from text_from row_of expect name any_word semicolon a_parameter parameters a_statement a_part expression in_parentheses an_argument arguments item_value an_item named_property a_property function_from function_expression new_arguments new_expression primary a_suffix suffixed postfix unary an_operand chain level conditional assignment evaluated block_from block first_value a_declared var_statement one_branch a_branch otherwise if_statement do_statement while_statement optional_expression for_from for_in_from for_var for_value for_statement return_statement throw_statement clause_from a_case clauses switch_statement catch_part finally_part try_statement function_statement statement deeper script_within expression_in optional_in expressions_in items_in properties_in suffix_in suffixes_in operands_in function_in statement_in otherwise_in statements_in declarations_in branches_in start_in target_in clauses_in handler_in rest_of_run filled_objects built_in_objects expression_node statement_node call_node construct_node load_node evaluation digits
+long_texts-hold = refl

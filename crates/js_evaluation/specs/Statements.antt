@@ -1,5 +1,5 @@
--- What statements do (ECMA-262 5.1, section 12). Each rule is what comes behind the charge for its node. A statement has
--- no value that a script can see, so each ends with undefined.
+-- What statements do (ECMA-262 5.1, section 12). Each rule is what comes behind the charge for its node. A statement
+-- has no value that a script can see, so each ends with undefined.
 use Rattle.std.specs.Prelude.{ℕ, zero, suc, List, [], ◌∷◌, length, map, Bool, true, false, if◌then◌else◌}
 use Rattle.std.specs.Fmt.{decimal}
 use Rattle.std.specs.List.{range_with_len}

@@ -1,0 +1,159 @@
+-- Worked examples of the natives of objects and errors.
+use Rattle.std.specs.Prelude.{◌≡◌, ℕ, List, [], ◌∷◌, ◌++◌, map, Option, Some, None, Result, Ok, true, false, codes, slice_get, slice_set, refl}
+use Rattle.std.specs.FinMap as finite
+use Rattle.js_grammar.specs.Reading.{Refusal, ◌>>=◌}
+use Rattle.js_grammar.specs.Statements.{script_of_text}
+use Rattle.js_binding.specs.Resolved.{resolved}
+use Rattle.heap_values.specs.declared.value.Value.{Value}
+use Rattle.heap_values.specs.declared.value.Value.TheVariants as value
+use Rattle.heap_values.specs.Views.{ObjectView}
+use Rattle.heap_objects.specs.Object.{object_with, value_property}
+use Rattle.object_heap.specs.Fresh.{native_object, fresh_heap}
+use Rattle.run_trees.specs.RunTree.{Done}
+use Rattle.run_trees.specs.WholeRun.{whole_run}
+use Rattle.js_evaluation.specs.State.{Comes}
+use Rattle.js_evaluation.specs.declared.fault.FaultCode.TheVariants as code
+use Rattle.js_evaluation.specs.Expressions.{expression_node}
+use Rattle.js_evaluation.specs.Statements.{statement_node}
+use Rattle.js_evaluation.specs.Entries.{call_node, construct_node, load_node}
+use Rattle.js_evaluation.specs.Evaluation.{Entry, Ending, script_run, ending_of, first_state, evaluation}
+use Rattle.js_evaluation.specs.Examples.{Row, row, at, doing, gives, fails, fails_with}
+use Rattle.std.specs.Fmt.{digits}
+use Rattle.js_grammar.specs.Tokens.{piece_at, tokens_from}
+use Rattle.js_grammar.specs.Literals.{text_from}
+use Rattle.js_grammar.specs.Readers.{row_of, expect, name, any_word, semicolon, a_parameter, parameters}
+use Rattle.js_grammar.specs.Expressions.{a_statement, a_part, expression, in_parentheses, an_argument, arguments, item_value, an_item, named_property, a_property, function_from, function_expression, new_arguments, new_expression, primary, a_suffix, suffixed, postfix, unary, an_operand, chain, level, conditional, assignment}
+use Rattle.js_grammar.specs.Statements.{evaluated, block_from, block, first_value, a_declared, var_statement, one_branch, a_branch, otherwise, if_statement, do_statement, while_statement, optional_expression, for_from, for_in_from, for_var, for_value, for_statement, return_statement, throw_statement, clause_from, a_case, clauses, switch_statement, catch_part, finally_part, try_statement, function_statement, statement, deeper, script_within}
+use Rattle.js_binding.specs.Resolved.{expression_in, optional_in, expressions_in, items_in, properties_in, suffix_in, suffixes_in, operands_in, function_in, statement_in, otherwise_in, statements_in, declarations_in, branches_in, start_in, target_in, clauses_in, handler_in}
+use Rattle.run_trees.specs.WholeRun.{rest_of_run}
+use Rattle.object_heap.specs.Fresh.{filled_objects, built_in_objects}
+
+-- ---- a heap with the natives of errors and objects in their places
+
+abbrev set_in : List ObjectView → ℕ → Option ObjectView → List ℕ → Value → List ObjectView
+set_in objects at None key v = objects
+set_in objects at (Some o) key v = slice_set objects at (object_with o key (value_property v false true))
+
+abbrev put_at : ℕ → List ℕ → ℕ → List ObjectView → List ObjectView
+put_at at key id objects = set_in objects at (slice_get objects at) key (value.Object (record { 0 = id }))
+
+abbrev with_natives : List ObjectView
+with_natives =
+    put_at 2 (codes "Error") 17 (put_at 2 (codes "TypeError") 18 (put_at 2 (codes "RangeError") 19
+    (put_at 7 (codes "constructor") 17 (put_at 7 (codes "toString") 21 (put_at 0 (codes "toString") 22 (put_at 0 (codes "valueOf") 23
+    (fresh_heap.objects ++ native_object 10 ∷ native_object 11 ∷ native_object 12 ∷ [])))))))
+
+-- how the run of a script ends there with so much fuel
+abbrev run_there : ℕ → List ℕ → Result Ending Refusal
+run_there fuel us = script_of_text us >>= λ body.
+    let program = resolved body in
+    let entry : Entry = record { url = codes "http://a/"; host = codes "a"; fuel = fuel } in
+    let state = first_state entry in
+    let heap = state.heap in
+    let tree = script_run program.0 program.1 entry (λ result s. Done (Comes result s)) (record state { heap = record heap { objects = with_natives } }) in
+    Ok (ending_of (whole_run finite.empty tree).end)
+
+abbrev AreRightThere : List Row → Type 0
+AreRightThere rows = map (λ r. run_there r.fuel r.script) rows ≡ map (λ r. r.ends) rows
+
+-- ---- objects
+
+abbrev objects : List Row
+objects =
+    -- an object as a text costs the entries of two natives: nine units in all
+    row 9 (doing (codes "return '' + {};")) (gives (codes "[object Object]")) ∷
+    -- eight are one too few
+    row 8 (doing (codes "return '' + {};")) (fails code.FuelSpent (at 1 44)) ∷
+    -- a native may stand for the function of the script: four units in all
+    row 4 (codes "var FindProxyForURL = toString;") (gives (codes "[object Object]")) ∷
+    -- three are one too few
+    row 3 (codes "var FindProxyForURL = toString;") (fails code.FuelSpent (at 0 0)) ∷
+    -- a function has no text
+    row 1000 (doing (codes "return '' + function () { };")) (fails_with code.Unsupported (at 1 44) (codes "Function.prototype.toString")) ∷
+    -- `new` before a native that constructs nothing
+    row 1000 (doing (codes "new ({}).toString();")) (fails_with code.Unsupported (at 1 34) (codes "Object.prototype.toString")) ∷
+    -- the class of an error and of a function
+    row 1000 (doing (codes "var e = new Error(), o = {t: ({}).toString}; e.t = o.t; toString.t = o.t; return e.t() + toString.t();")) (gives (codes "[object Error][object Function]")) ∷
+    -- that of a primitive value that is the receiver
+    row 1000 (doing (codes "Error.prototype.t = ({}).toString; return new Error().t();")) (gives (codes "[object Error]")) ∷
+    -- a native that is called as a name has the global object as its `this`
+    row 1000 (doing (codes "return toString();")) (gives (codes "[object Object]")) ∷
+    []
+
+pub objects-hold : AreRightThere objects
+unfolding piece_at tokens_from text_from row_of expect name any_word semicolon a_parameter parameters a_statement a_part expression in_parentheses an_argument arguments item_value an_item named_property a_property function_from function_expression new_arguments new_expression primary a_suffix suffixed postfix unary an_operand chain level conditional assignment evaluated block_from block first_value a_declared var_statement one_branch a_branch otherwise if_statement do_statement while_statement optional_expression for_from for_in_from for_var for_value for_statement return_statement throw_statement clause_from a_case clauses switch_statement catch_part finally_part try_statement function_statement statement deeper script_within expression_in optional_in expressions_in items_in properties_in suffix_in suffixes_in operands_in function_in statement_in otherwise_in statements_in declarations_in branches_in start_in target_in clauses_in handler_in rest_of_run filled_objects built_in_objects expression_node statement_node call_node construct_node load_node evaluation digits
+objects-hold = refl
+
+-- ---- errors
+
+abbrev errors : List Row
+errors =
+    -- an error that nothing handles
+    row 1000 (doing (codes "throw new Error('m');")) (fails_with code.Uncaught (at 1 34) (codes "Error: m")) ∷
+    -- without `new` and without a message
+    row 1000 (doing (codes "throw TypeError();")) (fails_with code.Uncaught (at 1 34) (codes "TypeError")) ∷
+    -- an error as a text
+    row 1000 (doing (codes "return '' + new RangeError('r');")) (gives (codes "RangeError: r")) ∷
+    -- an empty name is left out, a missing one is `Error`, and so it is with the message
+    row 1000 (doing (codes "var e = new TypeError('m'), s; e.name = ''; s = e + ' '; e.name = undefined; s += e + ' '; e.message = undefined; return s + e;")) (gives (codes "m Error: m Error")) ∷
+    -- the method takes any object
+    row 1000 (doing (codes "return (0, new Error().toString)();")) (gives (codes "Error")) ∷
+    -- but no primitive value
+    row 1000 (doing (codes "var o = 1; return new Error().toString(o) + null.x;")) (fails_with code.Uncaught (at 1 82) (codes "TypeError: not an object")) ∷
+    -- the message is converted, and an undefined one is none
+    row 1000 (doing (codes "return new Error({toString: function () { return 'm'; }}).message + new Error(undefined).message + new Error(null).message;")) (gives (codes "mnull")) ∷
+    -- an error of a kind is an error
+    row 1000 (doing (codes "return '' + (new TypeError() instanceof Error) + (new Error() instanceof TypeError);")) (gives (codes "truefalse")) ∷
+    -- the prototype of a constructor can't be written or deleted
+    row 1000 (doing (codes "var p = Error.prototype; Error.prototype = 1; return '' + (Error.prototype === p) + delete Error.prototype;")) (gives (codes "truefalse")) ∷
+    -- an error of the engine is an instance of its constructor
+    row 1000 (doing (codes "try { null.x; } catch (e) { return '' + (e instanceof TypeError) + (e instanceof RangeError); }")) (gives (codes "truefalse")) ∷
+    []
+
+pub errors-hold : AreRightThere errors
+unfolding piece_at tokens_from text_from row_of expect name any_word semicolon a_parameter parameters a_statement a_part expression in_parentheses an_argument arguments item_value an_item named_property a_property function_from function_expression new_arguments new_expression primary a_suffix suffixed postfix unary an_operand chain level conditional assignment evaluated block_from block first_value a_declared var_statement one_branch a_branch otherwise if_statement do_statement while_statement optional_expression for_from for_in_from for_var for_value for_statement return_statement throw_statement clause_from a_case clauses switch_statement catch_part finally_part try_statement function_statement statement deeper script_within expression_in optional_in expressions_in items_in properties_in suffix_in suffixes_in operands_in function_in statement_in otherwise_in statements_in declarations_in branches_in start_in target_in clauses_in handler_in rest_of_run filled_objects built_in_objects expression_node statement_node call_node construct_node load_node evaluation digits
+errors-hold = refl
+
+-- ---- the cells of errors
+
+abbrev cells_of_errors : List Row
+cells_of_errors =
+    -- an error without a message is one cell
+    row 1000 (doing (codes "var i; new Error(undefined); for (i = 0; i < 19; i++) [].length = 100000; [].length = 99969; return 'x';")) (gives (codes "x")) ∷
+    -- with one cell less it is full
+    row 1000 (doing (codes "var i; new Error(undefined); for (i = 0; i < 19; i++) [].length = 100000; [].length = 99970; return 'x';")) (fails code.HeapFull (at 1 118)) ∷
+    -- one with a message two
+    row 1000 (doing (codes "var i; Error(1); for (i = 0; i < 19; i++) [].length = 100000; [].length = 99968; return 'x';")) (gives (codes "x")) ∷
+    -- with one cell less it is full
+    row 1000 (doing (codes "var i; Error(1); for (i = 0; i < 19; i++) [].length = 100000; [].length = 99969; return 'x';")) (fails code.HeapFull (at 1 106)) ∷
+    []
+
+pub cells_of_errors-hold : AreRightThere cells_of_errors
+unfolding piece_at tokens_from text_from row_of expect name any_word semicolon a_parameter parameters a_statement a_part expression in_parentheses an_argument arguments item_value an_item named_property a_property function_from function_expression new_arguments new_expression primary a_suffix suffixed postfix unary an_operand chain level conditional assignment evaluated block_from block first_value a_declared var_statement one_branch a_branch otherwise if_statement do_statement while_statement optional_expression for_from for_in_from for_var for_value for_statement return_statement throw_statement clause_from a_case clauses switch_statement catch_part finally_part try_statement function_statement statement deeper script_within expression_in optional_in expressions_in items_in properties_in suffix_in suffixes_in operands_in function_in statement_in otherwise_in statements_in declarations_in branches_in start_in target_in clauses_in handler_in rest_of_run filled_objects built_in_objects expression_node statement_node call_node construct_node load_node evaluation digits
+cells_of_errors-hold = refl
+
+-- ---- depth of natives
+
+abbrev depth_of_natives : List Row
+depth_of_natives =
+    -- the entry of a native is open while it calls the script: each entry of f is four parts deeper
+    row 20000 (doing (codes "function f() { return Error({toString: f}); } f();")) (fails code.TooDeep (at 1 49)) ∷
+    -- what a native calls has the place of the call: eleven units to there
+    row 10 (doing (codes "Error({toString: function () { return 'm'; }});")) (fails code.FuelSpent (at 1 39)) ∷
+    []
+
+pub depth_of_natives-hold : AreRightThere depth_of_natives
+unfolding piece_at tokens_from text_from row_of expect name any_word semicolon a_parameter parameters a_statement a_part expression in_parentheses an_argument arguments item_value an_item named_property a_property function_from function_expression new_arguments new_expression primary a_suffix suffixed postfix unary an_operand chain level conditional assignment evaluated block_from block first_value a_declared var_statement one_branch a_branch otherwise if_statement do_statement while_statement optional_expression for_from for_in_from for_var for_value for_statement return_statement throw_statement clause_from a_case clauses switch_statement catch_part finally_part try_statement function_statement statement deeper script_within expression_in optional_in expressions_in items_in properties_in suffix_in suffixes_in operands_in function_in statement_in otherwise_in statements_in declarations_in branches_in start_in target_in clauses_in handler_in rest_of_run filled_objects built_in_objects expression_node statement_node call_node construct_node load_node evaluation digits
+depth_of_natives-hold = refl
+
+-- ---- the texts of natives
+
+abbrev texts_of_natives : List Row
+texts_of_natives =
+    -- Of 32 units that are left, the text of a native takes 15, and so does the sum with it; then two are left.
+    row 2000 (doing (codes "var t = '0123456789abcdef', s = t, i; for (i = 0; i < 14; i++) s += s; for (i = 0; i < 62; i++) s + ''; '' + {}; 'a' + 'bc';")) (fails code.TextSpent (at 1 151)) ∷
+    []
+
+pub texts_of_natives-hold : AreRightThere texts_of_natives
+unfolding piece_at tokens_from text_from row_of expect name any_word semicolon a_parameter parameters a_statement a_part expression in_parentheses an_argument arguments item_value an_item named_property a_property function_from function_expression new_arguments new_expression primary a_suffix suffixed postfix unary an_operand chain level conditional assignment evaluated block_from block first_value a_declared var_statement one_branch a_branch otherwise if_statement do_statement while_statement optional_expression for_from for_in_from for_var for_value for_statement return_statement throw_statement clause_from a_case clauses switch_statement catch_part finally_part try_statement function_statement statement deeper script_within expression_in optional_in expressions_in items_in properties_in suffix_in suffixes_in operands_in function_in statement_in otherwise_in statements_in declarations_in branches_in start_in target_in clauses_in handler_in rest_of_run filled_objects built_in_objects expression_node statement_node call_node construct_node load_node evaluation digits
+texts_of_natives-hold = refl
