@@ -1,0 +1,4 @@
+pub mod Call
+pub mod Math
+pub mod Numerals
+pub mod Parsing
