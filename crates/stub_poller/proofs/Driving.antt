@@ -1,18 +1,17 @@
 -- A stub that is driven by a log shows it.
-use Rattle.std.proofs.Common.{◌≡◌, ℕ, ◌+◌, ◌<◌, Bool, true, false, cond, ◌||◌, List, [], ◌∷◌, ◌++◌, Option, Some, None, refl, sym, ◌∙◌, ap, subst, arith, append_assoc}
+use Rattle.std.proofs.Common.{◌≡◌, ℕ, ◌+◌, ◌<◌, Bool, true, false, cond, List, [], ◌∷◌, ◌++◌, Option, Some, None, refl, sym, ◌∙◌, ap, subst, arith, append_assoc}
 use Rattle.std.proofs.lemmas.List.{append-nil}
-use Rattle.std.specs.List.{AllByRecursion}
 use mathlib.Core.Path.{fun_ext}
 use Rattle.pac_names.specs.declared.answer.Answer.{Answer}
 use Rattle.poll_log.specs.declared.question.Question.{Question}
 use Rattle.poll_log.specs.declared.terms.Terms.{Terms}
 use Rattle.poll_log.specs.Turns.{Turns, Begin, Then, Event, Given, Tick}
-use Rattle.poll_log.specs.Beats.{beat_of, is_beat}
+use Rattle.poll_log.specs.Beats.{is_beat}
 use Rattle.poll_log.specs.Questions.{asked_in, firsts, has_name, new_among, was_sent}
 use Rattle.poll_log.specs.Told.{Map, accepted, age, limit, or_else, told}
 use Rattle.poll_log.specs.Moment.{dead_in, older}
-use Rattle.poll_log.proofs.Names.{AllNew, AllNew-append, has_name-append, new_among-is_new, or-left}
-use Rattle.poll_log.proofs.Asking.{HasLookupName, firsts_named}
+use Rattle.poll_log.proofs.Names.{AllNew, has_name-append, new_among-is_new, or-left}
+use Rattle.poll_log.proofs.Asking.{firsts_named}
 use Rattle.poll_log.proofs.TurnLaws.{accepted_unsent, age-begin, age_next, age_unsent, distinct, firsts-begin, firsts-then, told-begin, told_next, told_unsent, unsent_before}
 use Rattle.stub_poller.specs.State.{StubState, asking, beaten, given, new_stub}
 use Rattle.stub_poller.specs.Shows.{Shows}

@@ -3,9 +3,8 @@ use Rattle.std.proofs.Common.{◌≡◌, ℕ, zero, suc, ◌+◌, ◌<◌, Bool,
 use Rattle.std.specs.List.{All, filter}
 use Rattle.std.specs.Prelude.{nat_le, nat_lt}
 use Rattle.std.proofs.lemmas.Bool.{ne_eqb, cases_lt, lt-leb, lt-ltb, le-leb, le-ltb, ltb-true, not_from_true, not_from_false}
-use Rattle.std.proofs.lemmas.List.{map-append, length-map}
-use Rattle.std.proofs.Math.Seq.{take-suc}
-use Rattle.std.proofs.lemmas.List.Elements.{All-head, All-same, All-tail, All-weaker, filter-append, filter_passes}
+use Rattle.std.proofs.lemmas.List.{length-map}
+use Rattle.std.proofs.lemmas.List.Elements.{All-head, All-same, All-tail, All-weaker, filter_passes}
 use Rattle.std.proofs.lemmas.List.Filters.{length-filter_both}
 use Rattle.pac_names.specs.declared.answer.Answer.{Answer}
 use Rattle.dns_message.specs.Header.{header_of}
@@ -71,13 +70,6 @@ length-aged_upto zero flights = refl
 length-aged_upto (suc n) [] = refl
 length-aged_upto (suc n) (f ∷ flights) = let ih = length-aged_upto n flights in omega arith
 
--- the list of what passes among the first items, with one item more
-pub listed_more : {A B : Type 0} (f : A → B) (p : A → Bool) (xs : List A) (i : ℕ) (x : A) → i < length xs → x ≡ get_or xs i x → map f (filter p (take (i + 1) xs)) ≡ map f (filter p (take i xs)) ++ map f (filter p (x ∷ []))
-listed_more {A = A} f p xs i x low e =
-    ap (λ l. map f (filter p l)) (ap (λ (n : ℕ). take n xs) (let z : i + 1 ≡ suc i = omega arith in z) ∙ take-suc xs i x low ∙ ap (λ (y : A). take i xs ++ y ∷ []) (sym e))
-    ∙ ap (map f) (filter-append p (take i xs) (x ∷ []))
-    ∙ map-append f (filter p (take i xs)) (filter p (x ∷ []))
-
 -- what is no answer is none
 pub unless_some : (r : Option Answer) → ((x : Answer) → r ≡ Some x → ⊥) → r ≡ None
 unless_some None n = refl
@@ -87,7 +79,7 @@ pub answer_of_same : (datagram : List ℕ) (f g : Flight) → f ≡ g → answer
 answer_of_same datagram f g e h = ap (answer_to datagram) (sym e) ∙ h
 
 -- a flight is either over or young
-over_or_young : (limit age : ℕ) → nat_le limit age ≡ not (nat_lt age limit)
+pub over_or_young : (limit age : ℕ) → nat_le limit age ≡ not (nat_lt age limit)
 over_or_young limit age = elim (cases_lt age limit) [
   | inl low ↦ lt-leb limit age low ∙ sym (not_from_true (nat_lt age limit) (lt-ltb age limit low))
   | inr high ↦ le-leb limit age high ∙ sym (not_from_false (nat_lt age limit) (le-ltb age limit high))

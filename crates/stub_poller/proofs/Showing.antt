@@ -1,13 +1,10 @@
 -- From one moment to the next: a question is asked, a datagram comes, a beat passes.
-use Rattle.std.proofs.Common.{◌≡◌, ℕ, zero, suc, ◌+◌, ◌*◌, ◌%◌, ◌<◌, ◌≤◌, Bool, true, false, cond, ◌||◌, ◌&&◌, not, List, [], ◌∷◌, ◌++◌, map, Option, Some, None, is_none, refl, sym, ◌∙◌, ap, subst, arith, nat_lt, nat_le, ◌==◌}
-use Rattle.std.specs.Prelude.{IsTrue, IsSome, is_some}
-use Rattle.std.specs.List.{AllByRecursion, filter, list_any}
-use Rattle.std.proofs.lemmas.Bool.{false≢true}
+use Rattle.std.proofs.Common.{◌≡◌, ℕ, ◌+◌, ◌*◌, ◌%◌, ◌<◌, Bool, true, false, cond, ◌||◌, ◌&&◌, not, List, [], ◌∷◌, ◌++◌, map, Option, Some, None, is_none, refl, sym, ◌∙◌, ap, subst, arith, nat_lt, nat_le, ◌==◌}
+use Rattle.std.specs.Prelude.{IsSome, is_some}
+use Rattle.std.specs.List.{AllByRecursion, filter}
 use Rattle.std.proofs.lemmas.Bool.Decides.{nat_tests}
-use Rattle.std.proofs.lemmas.List.{append-nil, map-append}
+use Rattle.std.proofs.lemmas.List.{map-append}
 use Rattle.std.proofs.lemmas.List.Elements.{filter-append}
-use mathlib.Core.Path.{fun_ext}
-use Rattle.pac_names.specs.Names.{is_lookup_name}
 use Rattle.pac_names.specs.declared.answer.Answer.{Answer}
 use Rattle.dns_message.specs.Reply.{reply_of}
 use Rattle.dns_message.proofs.QueryLaws.{one_name_law}
@@ -17,12 +14,13 @@ use Rattle.poll_log.specs.declared.terms.Terms.{Terms}
 use Rattle.poll_log.specs.Questions.{has_name, number_in, same_name}
 use Rattle.poll_log.specs.Told.{Map, accepted_in, limit, or_else, reply_to}
 use Rattle.poll_log.specs.Moment.{dead_in, flies, flight_at, flights_in, is_sent_again, older}
-use Rattle.poll_log.proofs.Names.{AllNew, and-false, and-true, has, has-append, has_name-append, none_some, or-first, or-left, or-right, or-true, same_is, same_itself, true_false}
-use Rattle.poll_log.proofs.Counts.{has_itself, new_not_seen}
+use Rattle.poll_log.proofs.Names.{AllNew, and-false, and-true, has, has-append, has_name-append, or-first, or-left, or-right, or-true, same_is, same_itself, true_false}
+use Rattle.poll_log.proofs.Counts.{has_itself}
 use Rattle.poll_log.proofs.Asking.{HasLookupName}
 use Rattle.stub_poller.specs.State.{StubState, aged, answer_to, asking, beaten, dying, given, is_dead_in, is_over, is_young, left_unless, name_of, question_of, resent, unanswered_by}
 use Rattle.stub_poller.specs.State as state
 use Rattle.stub_poller.specs.Shows.{Shows}
+use Rattle.stub_poller.proofs.FlightLists.{over_or_young}
 
 pub flights_cons : (L : ℕ) (M : Map) (a : List ℕ → ℕ) (q : Question) (F : List Question) → flights_in L M a (q ∷ F) ≡ cond (flies L M a q.name) (flight_at a q ∷ flights_in L M a F) (flights_in L M a F)
 unfolding flights_in
@@ -289,13 +287,6 @@ module _ (t : Terms) (M : Map) (a b : List ℕ → ℕ) where
       go true false e = ap (λ x. map question_of (cond x (aged (flight_at a q) ∷ rest) rest)) e
       go false x e = refl
 
-  over_young : (x : ℕ) → nat_le (t.wait * t.tries) x ≡ not (nat_lt x (t.wait * t.tries))
-  over_young x = go (nat_lt x (t.wait * t.tries)) refl
-    where
-      go : (c : Bool) → nat_lt x (t.wait * t.tries) ≡ c → nat_le (t.wait * t.tries) x ≡ not c
-      go true e = grind (arith, nat_tests)
-      go false e = grind (arith, nat_tests)
-
   deaths : (G : List Question) (n : List ℕ) → has n (map name_of (filter (is_over (t.wait * t.tries)) (map aged (flights_in (t.wait * t.tries) M a G)))) ≡ ((has_name n G && flies (t.wait * t.tries) M a n) && not (nat_lt (a n + 1) (t.wait * t.tries)))
   deaths [] n = ap (λ l. has n (map name_of (filter (is_over (t.wait * t.tries)) (map aged l)))) (flights_nil (t.wait * t.tries) M a)
   deaths (q ∷ G) n =
@@ -311,7 +302,7 @@ module _ (t : Terms) (M : Map) (a b : List ℕ → ℕ) where
       pick false = refl
 
       go : (c : Bool) → has n (map name_of (filter (is_over (t.wait * t.tries)) (map aged (cond c (flight_at a q ∷ flights_in (t.wait * t.tries) M a G) (flights_in (t.wait * t.tries) M a G))))) ≡ cond (c && not (nat_lt (a q.name + 1) (t.wait * t.tries))) (same_name q.name n || has n (map name_of (filter (is_over (t.wait * t.tries)) (map aged (flights_in (t.wait * t.tries) M a G))))) (has n (map name_of (filter (is_over (t.wait * t.tries)) (map aged (flights_in (t.wait * t.tries) M a G)))))
-      go true = pick (nat_le (t.wait * t.tries) (a q.name + 1)) ∙ ap (λ x. cond x (same_name q.name n || has n (map name_of rest)) (has n (map name_of rest))) (over_young (a q.name + 1))
+      go true = pick (nat_le (t.wait * t.tries) (a q.name + 1)) ∙ ap (λ x. cond x (same_name q.name n || has n (map name_of rest)) (has n (map name_of rest))) (over_or_young (t.wait * t.tries) (a q.name + 1))
       go false = refl
 
       bools : (c e k : Bool) → same_name q.name n ≡ k → (x y f l : Bool) → x ≡ ((y && f) && not l) → (k ≡ true → (c ≡ f) × (e ≡ l)) → cond (c && not e) (same_name q.name n || x) x ≡ (((same_name q.name n || y) && f) && not l)

@@ -1,5 +1,5 @@
 -- A stub that is driven by the moves of a log.
-use Rattle.std.specs.Prelude.{◌≡◌, ℕ, ◌<◌, ◌++◌, [], ◌∷◌, Bool, true, false, List}
+use Rattle.std.specs.Prelude.{◌<◌, [], ◌∷◌, Bool, true, false, List}
 use Rattle.poll_log.specs.declared.question.Question.{Question}
 use Rattle.poll_log.specs.declared.terms.Terms.{Terms}
 use Rattle.poll_log.specs.Turns.{Turns, Begin, Then, Event, Given, Tick}

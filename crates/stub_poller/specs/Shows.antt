@@ -1,5 +1,5 @@
 -- When a stub shows a moment: the answers that are told, the age of each name, and the questions that were sent first.
-use Rattle.std.specs.Prelude.{◌≡◌, ℕ, ◌<◌, false, None, List}
+use Rattle.std.specs.Prelude.{◌≡◌, ℕ, ◌<◌, false, List}
 use Rattle.poll_log.specs.declared.question.Question.{Question}
 use Rattle.poll_log.specs.Questions.{has_name}
 use Rattle.poll_log.specs.Told.{Map, limit}
