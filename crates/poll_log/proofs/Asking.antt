@@ -1,18 +1,18 @@
 -- The octets of a question are read as the question.
-use Rattle.std.proofs.Common.{◌≡◌, ℕ, suc, ◌+◌, ◌-◌, ◌^◌, ◌<◌, Bool, true, false, cond, ◌&&◌, List, [], ◌∷◌, ◌++◌, map, length, slice_range, Option, Some, None, refl, sym, ◌∙◌, ap, subst, arith}
+use Rattle.std.proofs.Common.{◌≡◌, ℕ, ◌-◌, Bool, true, false, cond, ◌&&◌, List, [], ◌∷◌, ◌++◌, map, length, slice_range, Option, Some, None, refl, sym, ◌∙◌, ap}
 use Rattle.std.specs.Prelude.{IsTrue, nat_eq}
-use Rattle.std.specs.List.{All, AllByRecursion, filter_map, flat_map, cons_option}
+use Rattle.std.specs.List.{All, AllByRecursion, flat_map, cons_option}
 use Rattle.std.specs.Cmp.Lexicographic.{pointwise}
-use Rattle.std.proofs.lemmas.List.Elements.{All-from_recursion, recursion_from_All}
+use Rattle.std.proofs.lemmas.List.Elements.{recursion_from_All}
 use Rattle.pac_names.specs.Labels.{labels_of}
 use Rattle.pac_names.specs.Names.{is_lookup_name}
-use Rattle.dns_name.proofs.SameLaws.{same_bytes, bytes_same}
+use Rattle.dns_name.proofs.SameLaws.{same_bytes}
 use Rattle.dns_name.specs.Writing.{wire_label}
-use Rattle.dns_message.specs.Numbers.{number_at}
 use Rattle.dns_message.specs.Question.{question_octets}
 use Rattle.dns_message.proofs.QueryLaws.{number_of, question_of, plain_is_name, plain_is_some, plain_labels}
 use Rattle.poll_log.specs.declared.question.Question.{Question}
-use Rattle.poll_log.specs.Questions.{IsQuestion, octets_of, asked_by, asked_in, checked_question, question_in, dotted_labels}
+use Rattle.poll_log.specs.Turns.{Turns, Begin, Then}
+use Rattle.poll_log.specs.Questions.{IsQuestion, octets_of, asked_by, asked_in, checked_question, firsts, has_name, new_among, onto_unless, question_in, dotted_labels}
 
 labels_dotted : (name octets : List ℕ) → flat_map wire_label (labels_of name) ≡ octets → dotted_labels octets ≡ name
 labels_dotted name [] e = absurd (plain_is_some name e)
@@ -73,3 +73,22 @@ asked_names (octets ∷ sent) = go (asked_by octets) refl (asked_names sent)
     go : (r : Option Question) → asked_by octets ≡ r → AllByRecursion HasLookupName (asked_in sent) → AllByRecursion HasLookupName (cons_option r (asked_in sent))
     go None e h = h
     go (Some q) e h = (asked_name_is octets q e, h)
+
+new_named : (seen qs : List Question) → AllByRecursion HasLookupName qs → AllByRecursion HasLookupName (new_among seen qs)
+unfolding new_among
+new_named seen [] h = tt
+new_named seen (q ∷ qs) h = go (has_name q.name seen) (new_named seen qs h.1) (new_named (seen ++ q ∷ []) qs h.1)
+  where
+    go : (b : Bool) → AllByRecursion HasLookupName (new_among seen qs) → AllByRecursion HasLookupName (new_among (seen ++ q ∷ []) qs) → AllByRecursion HasLookupName (onto_unless b q (new_among seen qs) (new_among (seen ++ q ∷ []) qs))
+    go true left behind = left
+    go false left behind = (h.0, behind)
+
+both_named : (xs ys : List Question) → AllByRecursion HasLookupName xs → AllByRecursion HasLookupName ys → AllByRecursion HasLookupName (xs ++ ys)
+both_named [] ys h k = k
+both_named (x ∷ xs) ys h k = (h.0, both_named xs ys h.1 k)
+
+-- the first sends are of lookup names
+pub firsts_named : (h : Turns) → AllByRecursion HasLookupName (firsts h)
+unfolding firsts
+firsts_named (Begin sent) = new_named [] (asked_in sent) (asked_names sent)
+firsts_named (Then h e sent) = both_named (firsts h) (new_among (firsts h) (asked_in sent)) (firsts_named h) (new_named (firsts h) (asked_in sent) (asked_names sent))

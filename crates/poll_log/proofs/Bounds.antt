@@ -1,5 +1,5 @@
 -- How many beats and events there are while a job waits.
-use Rattle.std.proofs.Common.{◌≡◌, ◌≢◌, ℕ, zero, suc, ◌+◌, ◌-◌, ◌*◌, ◌<◌, ◌≤◌, Bool, true, false, cond, ◌||◌, ◌&&◌, not, List, [], ◌∷◌, ◌++◌, map, length, get_or, Option, Some, None, is_none, refl, sym, ◌∙◌, ap, subst, arith, nat_lt, nat_le}
+use Rattle.std.proofs.Common.{◌≡◌, ℕ, zero, suc, ◌+◌, ◌*◌, ◌<◌, ◌≤◌, Bool, true, false, cond, ◌||◌, ◌&&◌, not, List, [], ◌∷◌, ◌++◌, length, get_or, Option, Some, None, is_none, refl, sym, ◌∙◌, ap, subst, arith, nat_le}
 use Rattle.std.specs.List.{list_any, All, cons_option}
 use Rattle.std.proofs.lemmas.List.{map-append}
 use Rattle.std.proofs.lemmas.Bool.Decides.{nat_tests}
@@ -9,13 +9,13 @@ use Rattle.poll_log.specs.declared.question.Question.{Question}
 use Rattle.poll_log.specs.declared.terms.Terms.{Terms}
 use Rattle.poll_log.specs.Turns.{Turns, Begin, Then, Event}
 use Rattle.poll_log.specs.Beats.{beats, events, beat_of, is_beat}
-use Rattle.poll_log.specs.Questions.{firsts, questions, has_name, was_sent, names_of, same_name}
-use Rattle.poll_log.specs.Told.{Map, age, limit, is_overdue, accepted, told, or_else, is_dead}
-use Rattle.poll_log.specs.Jobs.{Job, waits_unless, is_waiting, some_wait, told_to, runs_of, IsOwed, SendsOwed, WaitsBefore, once, wanted}
+use Rattle.poll_log.specs.Questions.{firsts, was_sent, names_of, same_name}
+use Rattle.poll_log.specs.Told.{Map, age, limit, accepted, told, or_else, is_dead}
+use Rattle.poll_log.specs.Jobs.{Job, waits_unless, is_waiting, some_wait, told_to, runs_of, SendsOwed, WaitsBefore, wanted}
 use Rattle.poll_log.specs.Laws.{Extends, IsRestartable, IsBounded}
-use Rattle.poll_log.proofs.Names.{has, has-names, has-append, once-covers, none_some, true_false, or-true, and-false, same_itself}
+use Rattle.poll_log.proofs.Names.{has, has-names, once-covers, none_some, true_false, or-true, same_itself}
 use Rattle.poll_log.proofs.BeatLaws.{beats_more, beats-begin, events-begin, events-then, events_by_beats}
-use Rattle.poll_log.proofs.TurnLaws.{told_stays, told_next, age_next, age-begin, accepted_young, sent_before}
+use Rattle.poll_log.proofs.TurnLaws.{told_stays, told_next, age_next, accepted_young, sent_before}
 use Rattle.poll_log.proofs.Dues.{firsts_of_begin, firsts_next}
 
 pub extends_next : (t : Terms) (h : Turns) (e : Event) (sent : List (List ℕ)) → Extends (told t (Then h e sent)) (told t h)

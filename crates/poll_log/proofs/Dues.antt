@@ -1,7 +1,7 @@
 -- In a log whose turns have the sends that are owed, each name was sent exactly as often as it is due.
-use Rattle.std.proofs.Common.{◌≡◌, ℕ, zero, suc, ◌+◌, ◌-◌, ◌*◌, ◌%◌, ◌<◌, ◌≤◌, Bool, true, false, cond, ◌||◌, ◌&&◌, not, List, [], ◌∷◌, ◌++◌, map, Option, Some, None, is_none, refl, sym, ◌∙◌, ap, subst, arith, nat_lt, nat_le, ◌==◌, append_assoc}
-use Rattle.std.specs.List.{All, filter, list_any}
-use Rattle.std.proofs.lemmas.List.{append-nil, map-append}
+use Rattle.std.proofs.Common.{◌≡◌, ℕ, ◌+◌, ◌<◌, Bool, true, false, cond, ◌||◌, ◌&&◌, List, [], ◌∷◌, ◌++◌, map, refl, sym, ◌∙◌, ap, subst, arith, nat_lt, append_assoc}
+use Rattle.std.specs.List.{All, filter}
+use Rattle.std.proofs.lemmas.List.{append-nil}
 use Rattle.std.proofs.lemmas.List.Elements.{All-append, All-filter, All-nil, All-same}
 use Rattle.std.proofs.lemmas.Bool.Decides.{nat_tests}
 use Rattle.poll_log.specs.declared.question.Question.{Question}
@@ -10,12 +10,41 @@ use Rattle.poll_log.specs.Turns.{Turns, Begin, Then, Event}
 use Rattle.poll_log.specs.Questions.{IsQuestion, octets_of, firsts, questions, asked_in, new_among, has_name, was_sent, names_of, times}
 use Rattle.poll_log.specs.Told.{told, due_sends}
 use Rattle.poll_log.specs.Jobs.{Job, IsOwed, SendsOwed, once, wanted}
-use Rattle.poll_log.proofs.Names.{AllNew, AllSeen, AllNew-append, new_among-new, new_from-once, has_name-append, or-first, or-second, true_false}
+use Rattle.poll_log.proofs.Names.{AllNew, AllSeen, AllNew-append, new_among-new, new_from-once, has_name-append}
 use Rattle.poll_log.proofs.Asking.{asked_in-octets}
 use Rattle.poll_log.proofs.Counts.{times-append, times_new, times_filter, unsent_times, seen_filter, filter_alike, new_not_seen}
-use Rattle.poll_log.proofs.TurnLaws.{firsts-then, firsts-begin, questions-then, questions-begin, distinct, due_next, due_unsent, due_begin, falls_due}
+use Rattle.poll_log.proofs.TurnLaws.{firsts-then, firsts-begin, questions-then, questions-begin, distinct, due_next, due_unsent, due_begin, falls_due, told_by_event}
 
--- One turn, whose names were sent before as often as D says and are due as often as D and `falls` say.
+-- One turn: names were sent in earlier turns as often as D says, and are due as often as D and `falls` say.
+module _ (t : Terms) (earlier before fresh : List Question) (turns : Turns) (new : AllNew before fresh) (D : List ℕ → ℕ) (falls : List ℕ → Bool) (counted : (n : List ℕ) → times earlier n ≡ cond (has_name n before) (D n) 0) (first : (n : List ℕ) → has_name n before ≡ false → D n ≡ 1) (due : (n : List ℕ) → has_name n (before ++ fresh) ≡ true → due_sends t turns n ≡ D n + cond (falls n) 1 0) where
+  -- the times that a name was sent, with the new questions counted in, before anything is sent again
+  pub times_fresh : (n : List ℕ) → times (earlier ++ fresh) n ≡ cond (has_name n (before ++ fresh)) (D n) 0
+  times_fresh n = times-append earlier fresh n ∙ go (has_name n before) refl ∙ ap (λ b. cond b (D n) 0) (sym (has_name-append n before fresh))
+    where
+      go : (b : Bool) → has_name n before ≡ b → times earlier n + times fresh n ≡ cond (b || has_name n fresh) (D n) 0
+      go true k =
+          let none : times fresh n ≡ 0 = unsent_times fresh n (new_not_seen before fresh n new k) in
+          let old : times earlier n ≡ D n = counted n ∙ ap (λ b. cond b (D n) 0) k in
+          omega arith
+      go false k =
+          let one : times fresh n ≡ cond (has_name n fresh) 1 0 = times_new before fresh n new in
+          let old : times earlier n ≡ 0 = counted n ∙ ap (λ b. cond b (D n) 0) k in
+          ap (λ m. m + times fresh n) old ∙ ap (λ m. 0 + m) one ∙ (let z : 0 + cond (has_name n fresh) 1 0 ≡ cond (has_name n fresh) 1 0 = omega arith in z) ∙ ap (λ d. cond (has_name n fresh) d 0) (sym (first n k))
+
+  -- sent fewer times than it is due is who falls due
+  repeats_are : (n : List ℕ) → has_name n (before ++ fresh) ≡ true → nat_lt (times (earlier ++ fresh) n) (due_sends t turns n) ≡ falls n
+  repeats_are n k =
+      let now : times (earlier ++ fresh) n ≡ D n = times_fresh n ∙ ap (λ b. cond b (D n) 0) k in
+      let next : due_sends t turns n ≡ D n + cond (falls n) 1 0 = due n k in
+      ap (λ m. nat_lt m (due_sends t turns n)) now ∙ ap (λ m. nat_lt (D n) m) next ∙ go (falls n)
+    where
+      go : (b : Bool) → nat_lt (D n) (D n + cond b 1 0) ≡ b
+      go true = grind (arith, nat_tests)
+      go false = grind (arith, nat_tests)
+
+  pub again_are : filter (λ q. nat_lt (times (earlier ++ fresh) q.name) (due_sends t turns q.name)) (before ++ fresh) ≡ filter (λ q. falls q.name) (before ++ fresh)
+  again_are = filter_alike (λ q. nat_lt (times (earlier ++ fresh) q.name) (due_sends t turns q.name)) (λ q. falls q.name) [] (before ++ fresh) (λ q k. repeats_are q.name k)
+
 module _ (t : Terms) (jobs : List Job) (earlier before : List Question) (turns : Turns) (sent : List (List ℕ)) (o : IsOwed t jobs earlier before turns sent) (proper : All IsQuestion before) where
   pub fresh_new : AllNew before o.fresh
   fresh_new = new_from-once before o.fresh (wanted jobs (told t turns)) o.asks
@@ -24,53 +53,27 @@ module _ (t : Terms) (jobs : List Job) (earlier before : List Question) (turns :
   all_proper = All-append IsQuestion o.fresh o.again o.proper (All-same IsQuestion o.again _ o.repeats (All-filter _ IsQuestion (before ++ o.fresh) (All-append IsQuestion before o.fresh proper o.proper)))
 
   pub asked_now : asked_in sent ≡ o.fresh ++ o.again
-  asked_now = ap asked_in o.is ∙ asked_in-octets (o.fresh ++ o.again) all_proper
+  asked_now = ap asked_in o.octets ∙ asked_in-octets (o.fresh ++ o.again) all_proper
 
   pub new_now : new_among before (asked_in sent) ≡ o.fresh
   new_now = ap (new_among before) asked_now ∙ new_among-new before o.fresh o.again fresh_new (subst (AllSeen (before ++ o.fresh)) (sym o.repeats) (seen_filter _ [] (before ++ o.fresh)))
 
-  module _ (D : List ℕ → ℕ) (falls : List ℕ → Bool) (counted : (n : List ℕ) → times earlier n ≡ cond (has_name n before) (D n) 0) (first : (n : List ℕ) → has_name n before ≡ false → D n ≡ 1) (due : (n : List ℕ) → has_name n (before ++ o.fresh) ≡ true → due_sends t turns n ≡ D n + cond (falls n) 1 0) (once_each : AllNew [] before) where
-    -- the times that a name was sent, with the new questions counted in, before anything is sent again
-    times_fresh : (n : List ℕ) → times (earlier ++ o.fresh) n ≡ cond (has_name n (before ++ o.fresh)) (D n) 0
-    times_fresh n = times-append earlier o.fresh n ∙ go (has_name n before) refl ∙ ap (λ b. cond b (D n) 0) (sym (has_name-append n before o.fresh))
-      where
-        go : (b : Bool) → has_name n before ≡ b → times earlier n + times o.fresh n ≡ cond (b || has_name n o.fresh) (D n) 0
-        go true k =
-            let none : times o.fresh n ≡ 0 = unsent_times o.fresh n (new_not_seen before o.fresh n fresh_new k) in
-            let old : times earlier n ≡ D n = counted n ∙ ap (λ b. cond b (D n) 0) k in
-            omega arith
-        go false k =
-            let one : times o.fresh n ≡ cond (has_name n o.fresh) 1 0 = times_new before o.fresh n fresh_new in
-            let old : times earlier n ≡ 0 = counted n ∙ ap (λ b. cond b (D n) 0) k in
-            ap (λ m. m + times o.fresh n) old ∙ ap (λ m. 0 + m) one ∙ (let z : 0 + cond (has_name n o.fresh) 1 0 ≡ cond (has_name n o.fresh) 1 0 = omega arith in z) ∙ ap (λ d. cond (has_name n o.fresh) d 0) (sym (first n k))
+  -- with this turn's sends each name was sent as often as it is due
+  pub times_now : (D : List ℕ → ℕ) (falls : List ℕ → Bool) → ((n : List ℕ) → times earlier n ≡ cond (has_name n before) (D n) 0) → ((n : List ℕ) → has_name n before ≡ false → D n ≡ 1) → ((n : List ℕ) → has_name n (before ++ o.fresh) ≡ true → due_sends t turns n ≡ D n + cond (falls n) 1 0) → AllNew [] before → (n : List ℕ) → times (earlier ++ asked_in sent) n ≡ cond (has_name n (before ++ o.fresh)) (due_sends t turns n) 0
+  times_now D falls counted first due once_each n =
+      ap (λ l. times (earlier ++ l) n) asked_now
+      ∙ ap (λ l. times l n) (sym (append_assoc earlier o.fresh o.again))
+      ∙ times-append (earlier ++ o.fresh) o.again n
+      ∙ ap (λ l. times (earlier ++ o.fresh) n + times l n) (o.repeats ∙ again_are t earlier before o.fresh turns fresh_new D falls counted first due)
+      ∙ ap (λ m. times (earlier ++ o.fresh) n + m) (times_filter falls [] (before ++ o.fresh) n (AllNew-append [] before o.fresh once_each fresh_new))
+      ∙ go (has_name n (before ++ o.fresh)) refl
+    where
+      before_again : times (earlier ++ o.fresh) n ≡ cond (has_name n (before ++ o.fresh)) (D n) 0
+      before_again = times_fresh t earlier before o.fresh turns fresh_new D falls counted first due n
 
-    -- sent fewer times than it is due is who falls due
-    repeats_are : (n : List ℕ) → has_name n (before ++ o.fresh) ≡ true → nat_lt (times (earlier ++ o.fresh) n) (due_sends t turns n) ≡ falls n
-    repeats_are n k =
-        let now : times (earlier ++ o.fresh) n ≡ D n = times_fresh n ∙ ap (λ b. cond b (D n) 0) k in
-        let next : due_sends t turns n ≡ D n + cond (falls n) 1 0 = due n k in
-        ap (λ m. nat_lt m (due_sends t turns n)) now ∙ ap (λ m. nat_lt (D n) m) next ∙ go (falls n)
-      where
-        go : (b : Bool) → nat_lt (D n) (D n + cond b 1 0) ≡ b
-        go true = grind (arith, nat_tests)
-        go false = grind (arith, nat_tests)
-
-    pub again_falls : o.again ≡ filter (λ q. falls q.name) (before ++ o.fresh)
-    again_falls = o.repeats ∙ filter_alike (λ q. nat_lt (times (earlier ++ o.fresh) q.name) (due_sends t turns q.name)) (λ q. falls q.name) [] (before ++ o.fresh) (λ q k. repeats_are q.name k)
-
-    -- with this turn's sends each name was sent as often as it is due
-    pub times_now : (n : List ℕ) → times (earlier ++ asked_in sent) n ≡ cond (has_name n (before ++ o.fresh)) (due_sends t turns n) 0
-    times_now n =
-        ap (λ l. times (earlier ++ l) n) asked_now
-        ∙ ap (λ l. times l n) (sym (append_assoc earlier o.fresh o.again))
-        ∙ times-append (earlier ++ o.fresh) o.again n
-        ∙ ap (λ l. times (earlier ++ o.fresh) n + times l n) again_falls
-        ∙ ap (λ m. times (earlier ++ o.fresh) n + m) (times_filter falls [] (before ++ o.fresh) n (AllNew-append [] before o.fresh once_each fresh_new))
-        ∙ go (has_name n (before ++ o.fresh)) refl
-      where
-        go : (b : Bool) → has_name n (before ++ o.fresh) ≡ b → times (earlier ++ o.fresh) n + cond (b && falls n) 1 0 ≡ cond b (due_sends t turns n) 0
-        go true k = ap (λ m. m + cond (falls n) 1 0) (times_fresh n ∙ ap (λ b. cond b (D n) 0) k) ∙ sym (due n k)
-        go false k = ap (λ m. m + 0) (times_fresh n ∙ ap (λ b. cond b (D n) 0) k)
+      go : (b : Bool) → has_name n (before ++ o.fresh) ≡ b → times (earlier ++ o.fresh) n + cond (b && falls n) 1 0 ≡ cond b (due_sends t turns n) 0
+      go true k = ap (λ m. m + cond (falls n) 1 0) (before_again ∙ ap (λ b. cond b (D n) 0) k) ∙ sym (due n k)
+      go false k = ap (λ m. m + 0) (before_again ∙ ap (λ b. cond b (D n) 0) k)
 
 -- the first sends of a log whose sends are owed are questions
 pub firsts_proper : (t : Terms) (jobs : List Job) (h : Turns) → SendsOwed t jobs h → All IsQuestion (firsts h)
@@ -99,3 +102,36 @@ module _ (t : Terms) (jobs : List Job) (w : 0 < t.wait) (r : 0 < t.tries) where
       ap (λ l. times l n) (questions-then h e sent)
       ∙ times_now t jobs (questions h) (firsts h) (Then h e sent) sent o.1 (firsts_proper t jobs h o.0) (due_sends t h) (falls_due t h e) (sent_as_due h o.0) (due_unsent t w r h) (λ m k. due_next t w r h e sent m (ap (has_name m) f ∙ k)) (distinct h) n
       ∙ ap (λ l. cond (has_name n l) (due_sends t (Then h e sent) n) 0) (sym f)
+
+  -- What is owed at the start, as code finds it: the names that the jobs lack.
+  pub owed_begin : (fresh : List Question) → names_of fresh ≡ once [] (wanted jobs (told t (Begin (map octets_of fresh)))) → All IsQuestion fresh → IsOwed t jobs [] [] (Begin (map octets_of fresh)) (map octets_of fresh)
+  owed_begin fresh asks proper =
+      record {
+        fresh = fresh;
+        again = [];
+        octets = ap (map octets_of) (sym (append-nil fresh));
+        asks = asks;
+        proper = proper;
+        repeats = sym (again_are t [] [] fresh (Begin (map octets_of fresh)) (new_from-once [] fresh _ asks) (λ m. 1) (λ m. false) (λ m. refl) (λ m k. refl) (λ m k. due_begin t w r (map octets_of fresh) m) ∙ none fresh);
+      }
+    where
+      none : (l : List Question) → filter (λ q. false) l ≡ []
+      none [] = refl
+      none (q ∷ l) = none l
+
+  -- What is owed after an event, as code finds it: the names that the jobs lack, then those that fall due.
+  pub owed_then : (h : Turns) (e : Event) (fresh again : List Question) → SendsOwed t jobs h → names_of fresh ≡ once (names_of (firsts h)) (wanted jobs (told t (Then h e []))) → All IsQuestion fresh → again ≡ filter (λ q. falls_due t h e q.name) (firsts h ++ fresh) → IsOwed t jobs (questions h) (firsts h) (Then h e (map octets_of (fresh ++ again))) (map octets_of (fresh ++ again))
+  owed_then h e fresh again o asks proper falls =
+      let new = new_from-once (firsts h) fresh (wanted jobs (told t (Then h e []))) asks in
+      let old = firsts_proper t jobs h o in
+      let sent : List (List ℕ) = map octets_of (fresh ++ again) in
+      let all : All IsQuestion (fresh ++ again) = All-append IsQuestion fresh again proper (All-same IsQuestion again _ falls (All-filter _ IsQuestion (firsts h ++ fresh) (All-append IsQuestion (firsts h) fresh old proper))) in
+      let now : firsts (Then h e sent) ≡ firsts h ++ fresh = firsts-then h e sent ∙ ap (λ l. firsts h ++ l) (ap (new_among (firsts h)) (asked_in-octets (fresh ++ again) all) ∙ new_among-new (firsts h) fresh again new (subst (AllSeen (firsts h ++ fresh)) (sym falls) (seen_filter _ [] (firsts h ++ fresh)))) in
+      record {
+        fresh = fresh;
+        again = again;
+        octets = refl;
+        asks = asks ∙ ap (λ M. once (names_of (firsts h)) (wanted jobs M)) (told_by_event t h e [] sent);
+        proper = proper;
+        repeats = falls ∙ sym (again_are t (questions h) (firsts h) fresh (Then h e sent) new (due_sends t h) (falls_due t h e) (sent_as_due h o) (due_unsent t w r h) (λ m k. due_next t w r h e sent m (ap (has_name m) now ∙ k)));
+      }

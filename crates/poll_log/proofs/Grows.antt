@@ -1,6 +1,6 @@
 -- What stays in a longer log.
-use Rattle.std.proofs.Common.{◌≡◌, ℕ, ◌+◌, ◌<◌, ◌≤◌, Bool, true, false, cond, ◌||◌, ◌&&◌, not, List, [], ◌∷◌, ◌++◌, Option, Some, None, is_none, refl, sym, ◌∙◌, ap, subst, arith, nat_le}
-use Rattle.std.specs.Prelude.{IsSome, is_some, IsTrue}
+use Rattle.std.proofs.Common.{◌≡◌, ℕ, ◌+◌, ◌≤◌, Bool, true, false, cond, ◌||◌, ◌&&◌, List, [], ◌∷◌, ◌++◌, Option, Some, None, is_none, refl, sym, ◌∙◌, ap, subst, arith, nat_le}
+use Rattle.std.specs.Prelude.{is_some}
 use Rattle.std.proofs.lemmas.Bool.Decides.{nat_tests}
 use Rattle.pac_names.specs.declared.answer.Answer.{Answer}
 use Rattle.pac_ports.specs.declared.link.Move.{Move}
@@ -9,10 +9,9 @@ use Rattle.poll_log.specs.declared.terms.Terms.{Terms}
 use Rattle.poll_log.specs.Turns.{Turns, Begin, Then, Event, Given, Tick, with_sent, with_move, with_moves, turns_of}
 use Rattle.poll_log.specs.Beats.{beat_of}
 use Rattle.poll_log.specs.Questions.{firsts, was_sent, has_name, asked_in, new_among}
-use Rattle.poll_log.specs.Told.{Map, age, limit, is_overdue, accepted, told, or_else, is_dead, IsDead}
-use Rattle.poll_log.specs.Jobs.{Job, IsFinished, IsUnanswered}
-use Rattle.poll_log.specs.Laws.{Extends, IsRestartable, ToldGrows, ToldWasSent, DeadStays, FinishedStays, UnansweredStays}
-use Rattle.poll_log.proofs.Names.{has_name-append, new_among-append, or-first, and-false, true_false, none_some}
+use Rattle.poll_log.specs.Told.{age, limit, is_overdue, accepted, told, or_else, is_dead}
+use Rattle.poll_log.specs.Laws.{ToldGrows, ToldWasSent, DeadStays, FinishedStays, UnansweredStays}
+use Rattle.poll_log.proofs.Names.{has_name-append, new_among-append, or-first, true_false}
 use Rattle.poll_log.proofs.Asking.{asked_in-append}
 use Rattle.poll_log.proofs.TurnLaws.{told_stays, told_unsent, told_next, sent_before, age_next, accepted_overdue}
 

@@ -7,3 +7,6 @@ pub mod TurnLaws
 pub mod Dues
 pub mod Bounds
 pub mod Grows
+pub mod Births
+pub mod Orders
+pub mod Flood

@@ -1,12 +1,12 @@
 -- Names in lists of questions.
-use Rattle.std.proofs.Common.{◌≡◌, ℕ, ◌+◌, Bool, true, false, cond, ◌||◌, ◌&&◌, not, List, [], ◌∷◌, ◌++◌, map, Option, Some, None, refl, sym, ◌∙◌, ap, subst, append_assoc}
+use Rattle.std.proofs.Common.{◌≡◌, ℕ, Bool, true, false, ◌||◌, ◌&&◌, List, [], ◌∷◌, ◌++◌, Some, None, refl, sym, ◌∙◌, ap, subst, append_assoc}
 use Rattle.std.specs.Prelude.{is_some}
-use Rattle.std.specs.List.{list_any, filter}
+use Rattle.std.specs.List.{list_any}
 use Rattle.std.proofs.lemmas.Bool.{false≢true}
 use Rattle.std.proofs.lemmas.List.{append-nil, map-append}
 use Rattle.dns_name.proofs.SameLaws.{same_bytes, bytes_same}
 use Rattle.poll_log.specs.declared.question.Question.{Question}
-use Rattle.poll_log.specs.Questions.{same_name, has_name, names_of, new_among, onto_unless, number_in, times}
+use Rattle.poll_log.specs.Questions.{same_name, has_name, names_of, new_among, onto_unless}
 use Rattle.poll_log.specs.Jobs.{once, onto_new}
 
 pub true_false : {A : Type 0} → true ≡ false → A

@@ -1,16 +1,14 @@
 -- What the next turn adds to a log, whatever it is.
-use Rattle.std.proofs.Common.{◌≡◌, ℕ, zero, suc, ◌+◌, ◌-◌, ◌*◌, ◌%◌, ◌<◌, ◌≤◌, Bool, true, false, cond, ◌||◌, ◌&&◌, not, List, [], ◌∷◌, ◌++◌, Option, Some, None, is_none, refl, sym, ◌∙◌, ap, subst, arith, nat_lt, nat_le, ◌==◌}
-use Rattle.std.specs.List.{All, AllByRecursion, filter}
+use Rattle.std.proofs.Common.{◌≡◌, ℕ, ◌+◌, ◌-◌, ◌*◌, ◌%◌, ◌<◌, Bool, true, false, cond, ◌&&◌, not, List, [], ◌++◌, Option, Some, None, is_none, refl, sym, ◌∙◌, ap, arith, nat_lt, nat_le, ◌==◌}
 use Rattle.std.proofs.lemmas.Bool.Decides.{nat_tests}
 use Rattle.pac_names.specs.declared.answer.Answer.{Answer}
-use Rattle.poll_log.specs.declared.question.Question.{Question}
 use Rattle.poll_log.specs.declared.terms.Terms.{Terms}
 use Rattle.poll_log.specs.Turns.{Turns, Begin, Then, Event, Given, Tick}
-use Rattle.poll_log.specs.Beats.{beat_of, is_beat, beats}
-use Rattle.poll_log.specs.Questions.{firsts, questions, asked_in, new_among, has_name, was_sent, number_in}
-use Rattle.poll_log.specs.Told.{Map, age, limit, is_overdue, accepted, accepted_in, reply_to, told, or_else, is_dead, stopped_age, marks, due_sends}
+use Rattle.poll_log.specs.Beats.{beat_of, is_beat}
+use Rattle.poll_log.specs.Questions.{firsts, questions, asked_in, new_among, was_sent, number_in}
+use Rattle.poll_log.specs.Told.{age, limit, is_overdue, accepted, accepted_in, reply_to, told, or_else, stopped_age, marks, due_sends}
 use Rattle.poll_log.specs.Moment.{flies}
-use Rattle.poll_log.proofs.Names.{AllNew, AllNew-append, new_among-is_new, has_name-append, or-left, or-first, and-false, true_false, none_some}
+use Rattle.poll_log.proofs.Names.{AllNew, AllNew-append, new_among-is_new, has_name-append, or-left, or-first, and-false, none_some}
 use Rattle.poll_log.proofs.Marks.{marks_none, marks_more}
 
 pub firsts-then : (h : Turns) (e : Event) (sent : List (List ℕ)) → firsts (Then h e sent) ≡ firsts h ++ new_among (firsts h) (asked_in sent)

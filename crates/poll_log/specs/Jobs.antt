@@ -1,10 +1,9 @@
 -- What has become of jobs that wait for names, what they have cost, and which sends they are owed.
-use Rattle.std.specs.Prelude.{◌≡◌, ℕ, ◌+◌, Bool, true, false, not, nat_lt, if◌then◌else◌, IsTrue, Option, Some, None, is_some, List, [], ◌∷◌, ◌++◌, map}
+use Rattle.std.specs.Prelude.{◌≡◌, ℕ, ◌+◌, Bool, true, false, not, nat_lt, if◌then◌else◌, Option, Some, None, is_some, List, [], ◌∷◌, ◌++◌, map}
 use Rattle.std.specs.List.{All, filter, filter_map, list_any}
-use Rattle.pac_ports.specs.declared.link.Move.{Move}
 use Rattle.poll_log.specs.declared.question.Question.{Question}
 use Rattle.poll_log.specs.declared.terms.Terms.{Terms}
-use Rattle.poll_log.specs.Turns.{Turns, Begin, Then, Event, turns_of, with_sent}
+use Rattle.poll_log.specs.Turns.{Turns, Begin, Then, with_sent}
 use Rattle.poll_log.specs.Questions.{IsQuestion, octets_of, questions, firsts, names_of, same_name, times}
 use Rattle.poll_log.specs.Told.{Map, told, is_dead, due_sends}
 
@@ -62,7 +61,7 @@ once seen (n ∷ ns) = onto_new (list_any (λ m. same_name m n) seen) n (once se
 pub record IsOwed (terms : Terms) (jobs : List Job) (earlier before : List Question) (turns : Turns) (sent : List (List ℕ)) : Type 0 where
   pub fresh : List Question
   pub again : List Question
-  pub is : sent ≡ map octets_of (fresh ++ again)
+  pub octets : sent ≡ map octets_of (fresh ++ again)
   -- the first untold names of the jobs, each once, without those that were sent in an earlier turn
   pub asks : names_of fresh ≡ once (names_of before) (wanted jobs (told terms turns))
   pub proper : All IsQuestion fresh

@@ -1,15 +1,15 @@
 -- The laws of a log, for any jobs that obey the extension law.
-use Rattle.std.specs.Prelude.{◌≡◌, ℕ, ◌+◌, ◌*◌, ◌<◌, ◌≤◌, true, Option, Some, None, IsSome, List, [], ◌∷◌, ◌++◌, if◌then◌else◌}
+use Rattle.std.specs.Prelude.{◌≡◌, ℕ, ◌+◌, ◌*◌, ◌<◌, ◌≤◌, true, Option, Some, None, IsSome, List, [], ◌∷◌, ◌++◌, length, if◌then◌else◌}
 use Rattle.std.specs.List.{All}
 use Rattle.pac_names.specs.declared.answer.Answer.{Answer}
 use Rattle.pac_ports.specs.declared.link.Move.{Move}
 use Rattle.poll_log.specs.declared.terms.TheConstants.{FLOOD}
 use Rattle.poll_log.specs.declared.question.Question.{Question}
 use Rattle.poll_log.specs.declared.terms.Terms.{Terms}
-use Rattle.poll_log.specs.Turns.{Turns, Begin, Then, Event, turns_of}
+use Rattle.poll_log.specs.Turns.{Turns, turns_of}
 use Rattle.poll_log.specs.Beats.{beats, events}
 use Rattle.poll_log.specs.Questions.{IsQuestion, octets_of, asked_by, questions, was_sent, times}
-use Rattle.poll_log.specs.Told.{Map, told, IsDead, due_sends, limit}
+use Rattle.poll_log.specs.Told.{Map, age, beats_before_birth, told, IsDead, due_sends, limit}
 use Rattle.poll_log.specs.Jobs.{Job, IsFinished, IsUnanswered, runs_of, some_wait, SendsOwed, WaitsBefore}
 
 -- the larger map holds each answer of the smaller one
@@ -33,6 +33,40 @@ pub record IsRestartable (most : ℕ) (job : Job) : Type 0 where
   pub within : (map : Map) → depth map ≤ most
   pub before : (map : Map) (n : List ℕ) → job map ≡ Some n → depth map + 1 ≤ most
 
+abbrev pub lacking_or : List ℕ → Option Answer → Option (List ℕ) → Option (List ℕ)
+lacking_or n None rest = Some n
+lacking_or n (Some answer) rest = rest
+
+-- the first of the names that a map doesn't hold
+abbrev pub first_lacking : List (List ℕ) → Map → Option (List ℕ)
+first_lacking [] map = None
+first_lacking (n ∷ ns) map = lacking_or n (map n) (first_lacking ns map)
+
+abbrev pub only_behind : Option Answer → List (List ℕ) → List (List ℕ)
+only_behind None rest = []
+only_behind (Some answer) rest = rest
+
+-- the names up to that one, it included
+abbrev pub up_to_lacking : List (List ℕ) → Map → List (List ℕ)
+up_to_lacking [] map = []
+up_to_lacking (n ∷ ns) map = n ∷ only_behind (map n) (up_to_lacking ns map)
+
+-- The extension law of a run, by the names that it asks against a map, in order: more answers leave a run that lacks none,
+-- and else the names that it asks up to the first that it lacks.
+pub record AsksInOrder (most : ℕ) (asked : Map → List (List ℕ)) : Type 0 where
+  pub done : (larger smaller : Map) → Extends larger smaller → first_lacking (asked smaller) smaller ≡ None → asked larger ≡ asked smaller
+  pub agrees : (larger smaller : Map) (n : List ℕ) → Extends larger smaller → first_lacking (asked smaller) smaller ≡ Some n
+      → (rest : List (List ℕ)) × (asked larger ≡ up_to_lacking (asked smaller) smaller ++ rest)
+  pub within : (map : Map) → length (asked map) ≤ most
+
+-- so it is restartable, and its depth is at most the number of names that it asks
+pub record IsRestartableBy (most : ℕ) (asked : Map → List (List ℕ)) : Type 0 where
+  pub law : IsRestartable most (λ map. first_lacking (asked map) map)
+  pub depth : (map : Map) → law.depth map ≤ length (asked map)
+
+abbrev pub RunsAreRestartable : Type 0
+RunsAreRestartable = (most : ℕ) (asked : Map → List (List ℕ)) → AsksInOrder most asked → IsRestartableBy most asked
+
 -- the octets of a question are read as that question
 abbrev pub QuestionsAreRead : Type 0
 QuestionsAreRead = (q : Question) → IsQuestion q → asked_by (octets_of q) ≡ Some q
@@ -40,6 +74,10 @@ QuestionsAreRead = (q : Question) → IsQuestion q → asked_by (octets_of q) �
 -- what was not sent is not told
 abbrev pub ToldWasSent : Type 0
 ToldWasSent = (terms : Terms) (turns : Turns) (n : List ℕ) → IsSome (told terms turns n) → was_sent turns n ≡ true
+
+-- the age of a name that was sent is the number of beats from its birth turn on
+abbrev pub AgeIsSinceBirth : Type 0
+AgeIsSinceBirth = (turns : Turns) (n : List ℕ) → was_sent turns n ≡ true → beats_before_birth turns n + age turns n ≡ beats turns
 
 -- told answers only grow: in a longer log each stands as it was
 abbrev pub ToldGrows : Type 0
@@ -61,9 +99,11 @@ UnansweredStays =
     (most : ℕ) (terms : Terms) (moves more : List Move) (job : Job) (n : List ℕ) → IsRestartable most job
     → IsUnanswered terms (turns_of moves) job n → IsUnanswered terms (turns_of (moves ++ more)) job n
 
--- a job costs at most one run more than the names that it asked
+-- a job costs at most one run more than the names that it asked before the first one that it lacks
 abbrev pub RunBound : Type 0
-RunBound = (most : ℕ) (terms : Terms) (turns : Turns) (job : Job) (law : IsRestartable most job) → runs_of terms turns job ≤ law.depth (told terms turns) + 1
+RunBound =
+    (most : ℕ) (terms : Terms) (turns : Turns) (job : Job) (law : IsRestartable most job)
+    → (runs_of terms turns job ≤ law.depth (told terms turns) + 1) × (runs_of terms turns job ≤ most + 1)
 
 -- where what is owed was sent, each name was sent exactly as often as it is due
 abbrev pub SentAsDue : Type 0

@@ -5,3 +5,4 @@ pub mod Told
 pub mod Jobs
 pub mod Moment
 pub mod Laws
+pub mod Examples

@@ -1,5 +1,5 @@
 -- What is in flight and dead, by the answers that are told, the ages, and the first sends.
-use Rattle.std.specs.Prelude.{ℕ, ◌+◌, ◌*◌, ◌%◌, Bool, ◌&&◌, ◌==◌, nat_lt, nat_le, if◌then◌else◌, is_none, List, map}
+use Rattle.std.specs.Prelude.{ℕ, ◌+◌, ◌%◌, Bool, ◌&&◌, ◌==◌, nat_lt, nat_le, if◌then◌else◌, is_none, List, map}
 use Rattle.std.specs.List.{filter}
 use Rattle.poll_log.specs.declared.flight.Flight.{Flight}
 use Rattle.poll_log.specs.declared.question.Question.{Question}

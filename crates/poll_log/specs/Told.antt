@@ -1,12 +1,12 @@
 -- How old a name is, what it was answered, and when it is to be sent again or is dead. All by counting in the log.
-use Rattle.std.specs.Prelude.{ℕ, zero, suc, ◌+◌, ◌-◌, ◌*◌, Bool, true, false, ◌&&◌, not, nat_le, if◌then◌else◌, IsTrue, Option, Some, None, is_none, List, [], ◌∷◌}
+use Rattle.std.specs.Prelude.{ℕ, zero, suc, ◌+◌, ◌-◌, ◌*◌, Bool, ◌&&◌, not, nat_le, if◌then◌else◌, IsTrue, Option, Some, None, is_none, List}
 use Rattle.pac_names.specs.declared.answer.Answer.{Answer}
 use Rattle.dns_message.specs.Reply.{reply_of}
 use Rattle.poll_log.specs.declared.question.Question.{Question}
 use Rattle.poll_log.specs.declared.terms.Terms.{Terms}
 use Rattle.poll_log.specs.Turns.{Turns, Begin, Then, Event, Given, Tick}
-use Rattle.poll_log.specs.Beats.{beat_of}
-use Rattle.poll_log.specs.Questions.{firsts, was_sent, has_name, number_in}
+use Rattle.poll_log.specs.Beats.{beats, beat_of}
+use Rattle.poll_log.specs.Questions.{before_birth, firsts, was_sent, has_name, number_in}
 
 -- answers by name
 abbrev pub Map : Type 0
@@ -16,6 +16,14 @@ Map = List ℕ → Option Answer
 unfoldable pub age : Turns → List ℕ → ℕ
 age (Begin sent) n = 0
 age (Then before event sent) n = if was_sent (Then before event sent) n then age before n + beat_of before event else 0
+
+abbrev pub beats_in : Option Turns → ℕ
+beats_in None = 0
+beats_in (Some turns) = beats turns
+
+-- the beats before the turn of the first send
+abbrev pub beats_before_birth : Turns → List ℕ → ℕ
+beats_before_birth turns n = beats_in (before_birth turns n)
 
 -- the age from which on no reply is taken
 abbrev pub limit : Terms → ℕ

@@ -1,5 +1,5 @@
 // The laws over the definitions of a log, each once.
-ghost use Rattle.poll_log.specs.Laws.{BeatBound, DeadStays, FinishedStays, QuestionsAreRead, RunBound, SentAsDue, ToldGrows, ToldWasSent, UnansweredStays};
+ghost use Rattle.poll_log.specs.Laws.{AgeIsSinceBirth, BeatBound, DeadStays, FinishedStays, QuestionsAreRead, RunBound, RunsAreRestartable, SentAsDue, ToldGrows, ToldWasSent, UnansweredStays};
 
 /// The octets of a question are read as that question.
 pub fn questions_are_read()
@@ -9,6 +9,11 @@ pub fn questions_are_read()
 /// No name is told that was not sent.
 pub fn told_was_sent()
     ensures { ToldWasSent }
+{}
+
+/// An age is the number of beats from the turn of the first send on.
+pub fn age_is_since_birth()
+    ensures { AgeIsSinceBirth }
 {}
 
 /// Told answers only grow.
@@ -29,6 +34,11 @@ pub fn finished_stays()
 /// An unanswered job stays unanswered, with its name.
 pub fn unanswered_stays()
     ensures { UnansweredStays }
+{}
+
+/// A run that asks its names in their order is restartable.
+pub fn runs_are_restartable()
+    ensures { RunsAreRestartable }
 {}
 
 /// A job costs at most one run more than the names that it asked.

@@ -1,0 +1,202 @@
+// A stub beside a server that is silent, slow or hostile.
+ghost use Rattle.std.specs.Prelude.{◌+◌, ◌<◌, ◌≤◌, length};
+
+use dns_message::write_reply;
+use pac_names::{Answer, LookupName};
+use std::alloc::{AllocError, Global};
+use std::test::Fail;
+use stub_poller::Stub;
+
+// The reply to the question for example.com under the number 1234 (hexadecimal), with the address 93.184.216.34. Its
+// question stands at 12, the answer's owner at 29.
+const REPLY: [u8; 45] = [
+    0x12, 0x34, 0x81, 0x80, 0x00, 0x01, 0x00, 0x01, 0x00, 0x00, 0x00, 0x00, 0x07, 0x65, 0x78, 0x61,
+    0x6d, 0x70, 0x6c, 0x65, 0x03, 0x63, 0x6f, 0x6d, 0x00, 0x00, 0x01, 0x00, 0x01, 0xc0, 0x0c, 0x00,
+    0x01, 0x00, 0x01, 0x00, 0x00, 0x00, 0x3c, 0x00, 0x04, 0x5d, 0xb8, 0xd8, 0x22,
+];
+
+const ADDRESS: Answer = Answer::Address(0x5db8d822);
+
+// A reply for www.example.com under the number 1: an address of web.example.com, and behind it the record that www is
+// an alias of web.
+const ALIAS: [u8; 67] = [
+    0x00, 0x01, 0x81, 0x80, 0x00, 0x01, 0x00, 0x02, 0x00, 0x00, 0x00, 0x00, 0x03, 0x77, 0x77, 0x77,
+    0x07, 0x65, 0x78, 0x61, 0x6d, 0x70, 0x6c, 0x65, 0x03, 0x63, 0x6f, 0x6d, 0x00, 0x00, 0x01, 0x00,
+    0x01, 0x03, 0x77, 0x65, 0x62, 0xc0, 0x10, 0x00, 0x01, 0x00, 0x01, 0x00, 0x00, 0x00, 0x3c, 0x00,
+    0x04, 0x0a, 0x00, 0x00, 0x05, 0xc0, 0x0c, 0x00, 0x05, 0x00, 0x01, 0x00, 0x00, 0x00, 0x3c, 0x00,
+    0x02, 0xc0, 0x21,
+];
+
+fn name(text: &[u8]) -> Result<LookupName, &'static str> {
+    LookupName::from_bytes(text).ok_or("a name")
+}
+
+// A stub that has asked for these names, each under its number.
+fn asking(alloc: Global, wait: u32, tries: u32, asked: &[(&[u8], u16)]) -> Result<Stub, Fail>
+    requires waits { 0 < wait }
+    requires wait { wait ≤ 1000 }
+    requires tried { 0 < tries }
+    requires tries { tries ≤ 8 }
+{
+    let mut stub = Stub::new(alloc, wait, tries);
+    for (text, id) in asked {
+        stub.ask(alloc, name(text)?, *id)?;
+    }
+    Ok(stub)
+}
+
+// The beats from 1 to `last` at which something is sent again.
+fn resends(alloc: Global, stub: &mut Stub, last: u32) -> Result<Vec<u32>, AllocError> {
+    let mut beats = Vec::new(alloc);
+    for beat in 1..=last {
+        if !stub.on_beat().resend.is_empty() {
+            beats.push(beat)?;
+        }
+    }
+    Ok(beats)
+}
+
+// Wait, tries, the beats at which a question is sent again, and the beat at which its name is dead.
+#[test]
+fn repeats_and_deaths(rt: HostRuntime) -> Result<(), Fail> {
+    let alloc = rt.alloc();
+    for (wait, tries, again, death) in [
+        (10, 4, [10, 20, 30].as_slice(), 40),
+        (1, 1, &[], 1),
+        (1, 2, &[1], 2),
+        (3, 2, &[3], 6),
+        (1, 8, &[1, 2, 3, 4, 5, 6, 7], 8),
+        (1000, 2, &[1000], 2000),
+    ] {
+        let mut stub = asking(alloc, wait, tries, &[(b"example.com", 7)])?;
+        let beats = resends(alloc, &mut stub, death - 1)?;
+        assert_eq!(rt; beats.as_slice(), again);
+        let example = name(b"example.com")?;
+        assert!(rt; stub.in_flight(&example));
+        assert!(rt; !stub.is_dead(&example));
+        let report = stub.on_beat();
+        assert!(rt; report.resend.is_empty());
+        assert_eq!(rt; report.dead.len(), 1);
+        assert!(rt; !stub.in_flight(&example));
+        assert!(rt; stub.is_dead(&example));
+        assert!(rt; stub.on_beat().dead.is_empty());
+    }
+    Ok(())
+}
+
+// The reply with octets from an offset on replaced.
+fn changed(at: usize, octets: &[u8]) -> [u8; 45]
+    requires { at + length octets.now ≤ 45 }
+{
+    let mut datagram = REPLY;
+    datagram[at..at + octets.len()].copy_from_slice(octets);
+    datagram
+}
+
+// The reply with some octets changed, and what it then answers to the one of two questions in flight that it was for.
+// After any other datagram that question is answered by the reply itself.
+#[test]
+fn forged_replies(rt: HostRuntime) -> Result<(), Fail> {
+    let alloc = rt.alloc();
+    let example = name(b"example.com")?;
+    for (at, octets, want) in [
+        // its own number, the number of the other question, and a number that was never drawn
+        (0, b"\x12\x34".as_slice(), Some(ADDRESS)),
+        (0, b"\x12\x35", None),
+        (0, b"\x00\x00", None),
+        // another name, another type, another class; the same name in upper case
+        (13, b"f", None),
+        (25, b"\x00\x1c", None),
+        (27, b"\x00\x03", None),
+        (13, b"EXAMPLE\x03Com", Some(ADDRESS)),
+        // a query, a truncated response, a server's failure, a name error, and no record
+        (2, b"\x01\x80", None),
+        (2, b"\x83\x80", None),
+        (2, b"\x81\x82", None),
+        (2, b"\x81\x83", Some(Answer::NoAddress)),
+        (6, b"\x00\x00", Some(Answer::NoAddress)),
+        // the answer's owner as a pointer to itself, and one past the end
+        (29, b"\xc0\x1d", None),
+        (29, b"\xc0\xff", None),
+    ] {
+        assert!(rt; at <= 30);
+        assert!(rt; octets.len() <= 15);
+        let mut stub = asking(
+            alloc,
+            10,
+            4,
+            &[(b"b.example", 0x1235), (b"example.com", 0x1234)],
+        )?;
+        let answer = stub.on_datagram(&changed(at, octets)).map(|found| found.1);
+        assert_eq!(rt; answer, want, "{octets:?} at {at}");
+        assert_eq!(rt; stub.in_flight(&example), want.is_none());
+        assert_eq!(rt; stub.on_datagram(&REPLY).is_some(), want.is_none());
+        assert!(rt; stub.in_flight(&name(b"b.example")?));
+    }
+    Ok(())
+}
+
+// Datagrams that are cut or empty, many of them, change nothing; the second reply and the one to a dead name neither.
+#[test]
+fn cut_doubled_and_late_replies(rt: HostRuntime) -> Result<(), Fail> {
+    let alloc = rt.alloc();
+    let mut stub = asking(alloc, 1, 1, &[(b"example.com", 0x1234)])?;
+    for end in 0..45 {
+        assert!(rt; stub.on_datagram(&REPLY[..end]).is_none(), "{end}");
+    }
+    for _ in 0..10_000 {
+        assert!(rt; stub.on_datagram(b"").is_none());
+        assert!(rt; stub.on_datagram(&ALIAS).is_none());
+    }
+    assert!(rt; stub.on_datagram(&REPLY).is_some());
+    assert!(rt; stub.on_datagram(&REPLY).is_none());
+    assert!(rt; stub.on_beat().dead.is_empty());
+
+    let mut late = asking(alloc, 1, 1, &[(b"example.com", 0x1234)])?;
+    assert_eq!(rt; late.on_beat().dead.len(), 1);
+    assert!(rt; late.on_datagram(&REPLY).is_none());
+    assert!(rt; late.is_dead(&name(b"example.com")?));
+    Ok(())
+}
+
+fn front(buffer: &[u8; 512], count: usize) -> &[u8]
+    requires { count ≤ 512 }
+{
+    &buffer[..count]
+}
+
+// Names, each under its number, in the order of asking, and the order in which they are answered: under one number for
+// all, too. What is left is sent again in the order of asking.
+#[test]
+fn replies_in_any_order(rt: HostRuntime) -> Result<(), Fail> {
+    let alloc = rt.alloc();
+    for (first, second, third) in [(1, 2, 3), (7, 7, 7), (0, 65535, 0)] {
+        let mut stub = asking(
+            alloc,
+            1,
+            8,
+            &[
+                (b"a.example", first),
+                (b"b.example", second),
+                (b"c.example", third),
+            ],
+        )?;
+        let mut buffer = [0; 512];
+        let address = Answer::Address(0x0a000002);
+        let length = write_reply(&mut buffer, second, &name(b"b.example")?, address);
+        let found = stub.on_datagram(front(&buffer, length)).ok_or("a reply")?;
+        assert!(rt; found.0 == name(b"b.example")?);
+        assert_eq!(rt; found.1, address);
+
+        let report = stub.on_beat();
+        assert_eq!(rt; report.resend.len(), 2);
+        assert!(rt; report.resend[0].name == name(b"a.example")?);
+        assert_eq!(rt; report.resend[0].id, first);
+        assert!(rt; report.resend[1].name == name(b"c.example")?);
+        assert_eq!(rt; report.resend[1].id, third);
+    }
+    let mut stub = asking(alloc, 1, 8, &[(b"www.example.com", 1)])?;
+    let found = stub.on_datagram(&ALIAS).ok_or("a reply")?;
+    assert_eq!(rt; found.1, Answer::Address(0x0a000005));
+    Ok(())
+}

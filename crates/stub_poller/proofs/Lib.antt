@@ -1,0 +1,3 @@
+pub mod FlightLists
+pub mod Showing
+pub mod Driving

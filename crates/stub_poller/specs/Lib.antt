@@ -1,0 +1,5 @@
+pub mod State
+pub mod Ready
+pub mod Lending
+pub mod Shows
+pub mod Driven
