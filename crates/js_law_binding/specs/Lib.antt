@@ -1,0 +1,3 @@
+pub mod Environments
+pub mod Laws
+pub mod Rules
