@@ -5,7 +5,7 @@ use Rattle.js_evaluation.specs.Expressions.{expression_node}
 use Rattle.js_evaluation.specs.Statements.{statement_node}
 use Rattle.js_evaluation.specs.Entries.{call_node, construct_node, load_node}
 use Rattle.js_evaluation.specs.Evaluation.{evaluation}
-use Rattle.js_evaluation.specs.Examples.{Row, row, AreRight, at, doing, gives, fails}
+use Rattle.js_evaluation.specs.Examples.{Row, row, AreRight, at, doing, gives, fails, fails_with}
 use Rattle.std.specs.Fmt.{digits}
 use Rattle.js_grammar.specs.Tokens.{piece_at, tokens_from}
 use Rattle.js_grammar.specs.Literals.{text_from}
@@ -86,6 +86,10 @@ fuel_rows =
     row 10 (doing (codes "function P(a) { } new P(1); return 'x';")) (fails code.FuelSpent (at 1 69)) ∷
     -- the entry has the place of `new`
     row 8 (doing (codes "function P(a) { } new P(1); return 'x';")) (fails code.FuelSpent (at 1 52)) ∷
+    -- what is no function has no entry: ten units to there
+    row 10 (doing (codes "var x = 1; x(2);")) (fails_with code.Uncaught (at 1 46) (codes "TypeError: not a function")) ∷
+    -- and so it is with what is no constructor: nine units to there
+    row 9 (doing (codes "var o = {}; new o(1);")) (fails_with code.Uncaught (at 1 46) (codes "TypeError: not a constructor")) ∷
     -- the load, two statements and a text, the entry, a statement and a name: seven units
     row 7 (codes "var x = 'a'; function FindProxyForURL() { return x; }") (gives (codes "a")) ∷
     -- no unit is left for the load
@@ -106,6 +110,10 @@ depth_rows =
     row 20000 (doing (codes "function f() { return (f)(); } f();")) (fails code.TooDeep (at 1 56)) ∷
     -- A target is closed before its value, so each entry of f is four parts deeper: the 2,001st is a statement.
     row 20000 (doing (codes "var o = {}; function f() { return o.x = (f)(); } f();")) (fails code.TooDeep (at 1 61)) ∷
+    -- the unit of a part is taken before its depth is looked at: the last of 3,336 is that of the 2,001st part
+    row 3336 (doing (codes "function f() { return (f)(); } f();")) (fails code.TooDeep (at 1 56)) ∷
+    -- so with one less the fuel is spent
+    row 3335 (doing (codes "function f() { return (f)(); } f();")) (fails code.FuelSpent (at 1 56)) ∷
     []
 
 pub depth_rows-hold : AreRight depth_rows

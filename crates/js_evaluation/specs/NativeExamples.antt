@@ -70,8 +70,8 @@ objects =
     row 3 (codes "var FindProxyForURL = toString;") (fails code.FuelSpent (at 0 0)) ∷
     -- a function has no text
     row 1000 (doing (codes "return '' + function () { };")) (fails_with code.Unsupported (at 1 44) (codes "Function.prototype.toString")) ∷
-    -- `new` before a native that constructs nothing
-    row 1000 (doing (codes "new ({}).toString();")) (fails_with code.Unsupported (at 1 34) (codes "Object.prototype.toString")) ∷
+    -- `new` before a native that constructs nothing, which has no entry: eight units to there
+    row 8 (doing (codes "new ({}).toString();")) (fails_with code.Unsupported (at 1 34) (codes "Object.prototype.toString")) ∷
     -- the class of an error and of a function
     row 1000 (doing (codes "var e = new Error(), o = {t: ({}).toString}; e.t = o.t; toString.t = o.t; return e.t() + toString.t();")) (gives (codes "[object Error][object Function]")) ∷
     -- that of a primitive value that is the receiver
