@@ -3,3 +3,4 @@ pub mod Digits
 pub mod LexLoop
 pub mod Placed
 pub mod TextLoop
+mod Keywords

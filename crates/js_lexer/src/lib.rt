@@ -15,4 +15,4 @@ mod words;
 
 pub use lexer::lex;
 pub use units::place_after;
-pub use words::{is_spelled, keyword_of};
+pub use words::{is_spelled, keyword_of, keyword_spelling};

@@ -3,7 +3,14 @@ ghost use Rattle.std.specs.Prelude.{◌≡◌, ◌≤◌, ◌<◌, ◌+◌, ◌^
 ghost use Rattle.std.specs.List.{prefix_len};
 ghost use Rattle.utf16_text.specs.Letters.{is_space_unit};
 ghost use Rattle.utf16_text.specs.Digits.{is_digit, is_hexadecimal};
-ghost use Rattle.js_grammar.specs.Units.{first_passes, begins_with, is_word_start, is_word_part, has_break, place_after};
+ghost use Rattle.js_grammar.specs.Units.{
+  first_passes,
+  begins_with,
+  is_word_start,
+  is_word_part,
+  has_break,
+  place_after,
+};
 ghost use Rattle.js_grammar.specs.Tokens.{is_inline};
 
 use js_tree::Place;

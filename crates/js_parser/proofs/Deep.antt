@@ -1,50 +1,73 @@
 -- What has room for one more nested part reads it with room for one less.
-use Rattle.std.proofs.Common.{◌≡◌, ℕ, suc, ◌-◌, ◌<◌, List, Err, refl, sym, ap, ◌∙◌, subst, arith}
+use Rattle.std.proofs.Common.{◌≡◌, ℕ, suc, ◌-◌, ◌<◌, List, Err, refl, ap, ◌∙◌, arith}
 use Rattle.js_tree.specs.declared.place.Place.{Place}
 use Rattle.js_tree.specs.declared.token.Token.{Token}
 use Rattle.js_tree.specs.declared.refusal.ReadKind.TheVariants.{TooDeep}
+use Rattle.js_grammar.specs.declared.form.Form.{Form}
+use Rattle.js_grammar.specs.declared.form.LeftSide.TheVariants as side
+use Rattle.js_grammar.specs.declared.around.Around.{Around}
 use Rattle.js_grammar.specs.Readers.{place_at}
-use Rattle.js_grammar.specs.Statements.{deeper}
+use Rattle.js_grammar.specs.Expressions.{assignment, unary, suffixed}
+use Rattle.js_grammar.specs.Statements.{deeper, statement as statement_of, block as block_of}
 use Rattle.js_parser.specs.declared.nested.ExpressionPart.{ExpressionPart}
 use Rattle.js_parser.specs.declared.nested.ExpressionPart.TheVariants.{Value, Operand, Callee}
 use Rattle.js_parser.specs.declared.nested.StatementPart.{StatementPart}
 use Rattle.js_parser.specs.declared.nested.StatementPart.TheVariants.{Statement, Block}
-use Rattle.js_parser.specs.Nested.{nested_expression, nested_statement, expression_in, statement_in}
+use Rattle.js_parser.specs.Nested.{expression_part, statement_part}
 
-module _ (end : Place) (n : ℕ) where
+module _ (end : Place) (n : ℕ) (ts : List Token) where
+  no_expression : (part : ExpressionPart) → expression_part (deeper end 0) part ts ≡ Err (TooDeep, place_at end ts)
+  unfolding deeper
+  no_expression (Value form) = refl
+  no_expression Operand = refl
+  no_expression Callee = refl
+
+  no_statement : (part : StatementPart) → statement_part (deeper end 0) part ts ≡ Err (TooDeep, place_at end ts)
+  unfolding deeper
+  no_statement (Statement around) = refl
+  no_statement (Block around) = refl
+
+  pub expression_too_deep : (part : ExpressionPart) → n ≡ 0 → expression_part (deeper end n) part ts ≡ Err (TooDeep, place_at end ts)
+  expression_too_deep part e = ap (λ m. expression_part (deeper end m) part ts) e ∙ no_expression part
+
+  pub statement_too_deep : (part : StatementPart) → n ≡ 0 → statement_part (deeper end n) part ts ≡ Err (TooDeep, place_at end ts)
+  statement_too_deep part e = ap (λ m. statement_part (deeper end m) part ts) e ∙ no_statement part
+
   one_more : 0 < n → n ≡ suc (n - 1)
   one_more h = omega arith
 
-  no_expression : (part : ExpressionPart) (ts : List Token) → nested_expression (deeper end 0) part ts ≡ Err (TooDeep, place_at end ts)
+  value_of : (m : ℕ) (form : Form) → (deeper end (suc m)).value form ts ≡ assignment end (deeper end m) form ts
   unfolding deeper
-  no_expression (Value form) ts = refl
-  no_expression Operand ts = refl
-  no_expression Callee ts = refl
+  value_of m form = refl
 
-  no_statement : (part : StatementPart) (ts : List Token) → nested_statement (deeper end 0) part ts ≡ Err (TooDeep, place_at end ts)
+  operand_of : (m : ℕ) → (deeper end (suc m)).operand ts ≡ unary end (deeper end m) ts
   unfolding deeper
-  no_statement (Statement around) ts = refl
-  no_statement (Block around) ts = refl
+  operand_of m = refl
 
-  pub expression_too_deep : (part : ExpressionPart) (ts : List Token) → n ≡ 0 → nested_expression (deeper end n) part ts ≡ Err (TooDeep, place_at end ts)
-  expression_too_deep part ts e = subst (λ m. nested_expression (deeper end m) part ts ≡ Err (TooDeep, place_at end ts)) (sym e) (no_expression part ts)
-
-  pub statement_too_deep : (part : StatementPart) (ts : List Token) → n ≡ 0 → nested_statement (deeper end n) part ts ≡ Err (TooDeep, place_at end ts)
-  statement_too_deep part ts e = subst (λ m. nested_statement (deeper end m) part ts ≡ Err (TooDeep, place_at end ts)) (sym e) (no_statement part ts)
-
-  is_expression : (m : ℕ) (part : ExpressionPart) (ts : List Token) → nested_expression (deeper end (suc m)) part ts ≡ expression_in end (deeper end m) part ts
+  callee_of : (m : ℕ) → (deeper end (suc m)).callee ts ≡ suffixed end (deeper end m) side.Member ts
   unfolding deeper
-  is_expression m (Value form) ts = refl
-  is_expression m Operand ts = refl
-  is_expression m Callee ts = refl
+  callee_of m = refl
 
-  is_statement : (m : ℕ) (part : StatementPart) (ts : List Token) → nested_statement (deeper end (suc m)) part ts ≡ statement_in end (deeper end m) part ts
+  nested_statement : (m : ℕ) (around : Around) → (deeper end (suc m)).statement around ts ≡ statement_of end (deeper end m) around ts
   unfolding deeper
-  is_statement m (Statement around) ts = refl
-  is_statement m (Block around) ts = refl
+  nested_statement m around = refl
 
-  pub expression_deeper : (part : ExpressionPart) (ts : List Token) → 0 < n → nested_expression (deeper end n) part ts ≡ expression_in end (deeper end (n - 1)) part ts
-  expression_deeper part ts h = ap (λ m. nested_expression (deeper end m) part ts) (one_more h) ∙ is_expression (n - 1) part ts
+  nested_block : (m : ℕ) (around : Around) → (deeper end (suc m)).block around ts ≡ block_of end (deeper end m) around ts
+  unfolding deeper
+  nested_block m around = refl
 
-  pub statement_deeper : (part : StatementPart) (ts : List Token) → 0 < n → nested_statement (deeper end n) part ts ≡ statement_in end (deeper end (n - 1)) part ts
-  statement_deeper part ts h = ap (λ m. nested_statement (deeper end m) part ts) (one_more h) ∙ is_statement (n - 1) part ts
+  module _ (some : 0 < n) where
+    pub value : (form : Form) → (deeper end n).value form ts ≡ assignment end (deeper end (n - 1)) form ts
+    value form = ap (λ m. (deeper end m).value form ts) (one_more some) ∙ value_of (n - 1) form
+
+    pub operand : (deeper end n).operand ts ≡ unary end (deeper end (n - 1)) ts
+    operand = ap (λ m. (deeper end m).operand ts) (one_more some) ∙ operand_of (n - 1)
+
+    pub callee : (deeper end n).callee ts ≡ suffixed end (deeper end (n - 1)) side.Member ts
+    callee = ap (λ m. (deeper end m).callee ts) (one_more some) ∙ callee_of (n - 1)
+
+    pub statement : (around : Around) → (deeper end n).statement around ts ≡ statement_of end (deeper end (n - 1)) around ts
+    statement around = ap (λ m. (deeper end m).statement around ts) (one_more some) ∙ nested_statement (n - 1) around
+
+    pub block : (around : Around) → (deeper end n).block around ts ≡ block_of end (deeper end (n - 1)) around ts
+    block around = ap (λ m. (deeper end m).block around ts) (one_more some) ∙ nested_block (n - 1) around

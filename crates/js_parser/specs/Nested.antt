@@ -1,16 +1,16 @@
--- What a parser's readers of nested parts read.
-use Rattle.std.specs.Prelude.{◌<◌, ◌-◌, List, length, Result, IfOk}
+-- What a parser reads by, and what its readers of nested parts read.
+use Rattle.std.specs.Prelude.{ℕ, List, Result}
 use Rattle.std.specs.Fn.{Shared}
+use Rattle.std.specs.declared.alloc.Global.{Global}
 use denote.Ref.{Bor}
 use Rattle.js_tree.specs.declared.place.Place.{Place}
 use Rattle.js_tree.specs.declared.token.Token.{Token}
 use Rattle.js_tree.specs.declared.refusal.ReadAnswer.{ReadAnswer}
 use Rattle.js_tree.specs.Tree.{ExpressionTree, StatementTree}
-use Rattle.js_grammar.specs.declared.form.LeftSide.TheVariants as side
-use Rattle.js_grammar.specs.Reading.{Gives}
 use Rattle.js_grammar.specs.Readers.{Reader}
-use Rattle.js_grammar.specs.Expressions.{Deeper, assignment, unary, suffixed}
-use Rattle.js_grammar.specs.Statements.{deeper, statement, block}
+use Rattle.js_grammar.specs.Expressions.{Deeper}
+use Rattle.js_grammar.specs.Statements.{deeper}
+use Rattle.js_reading.specs.Reads.{Reads}
 use Rattle.js_parser.specs.declared.nested.ExpressionPart.{ExpressionPart}
 use Rattle.js_parser.specs.declared.nested.ExpressionPart.TheVariants.{Value, Operand, Callee}
 use Rattle.js_parser.specs.declared.nested.StatementPart.{StatementPart}
@@ -18,32 +18,25 @@ use Rattle.js_parser.specs.declared.nested.StatementPart.TheVariants.{Statement,
 use Rattle.js_parser.specs.declared.parser.Parser.{Parser}
 
 -- a part that counts as nested
-abbrev pub nested_expression : Deeper → ExpressionPart → Reader ExpressionTree
-nested_expression d (Value form) = d.value form
-nested_expression d Operand = d.operand
-nested_expression d Callee = d.callee
+abbrev pub expression_part : Deeper → ExpressionPart → Reader ExpressionTree
+expression_part d (Value form) = d.value form
+expression_part d Operand = d.operand
+expression_part d Callee = d.callee
 
-abbrev pub nested_statement : Deeper → StatementPart → Reader StatementTree
-nested_statement d (Statement around) = d.statement around
-nested_statement d (Block around) = d.block around
+abbrev pub statement_part : Deeper → StatementPart → Reader StatementTree
+statement_part d (Statement around) = d.statement around
+statement_part d (Block around) = d.block around
 
--- the part itself, whose own parts are read by d
-abbrev pub expression_in : Place → Deeper → ExpressionPart → Reader ExpressionTree
-expression_in end d (Value form) = assignment end d form
-expression_in end d Operand = unary end d
-expression_in end d Callee = suffixed end d side.Member
+-- how a parser reads nested parts: with the room that it has
+abbrev pub nested : {E S : Type 0} → Parser E S → Deeper
+nested parser = deeper parser.end parser.room
 
-abbrev pub statement_in : Place → Deeper → StatementPart → Reader StatementTree
-statement_in end d (Statement around) = statement end d around
-statement_in end d (Block around) = block end d around
+-- Each part may be asked for with this room, and is read as reader says.
+pub record ReadsParts {F P X : Type 0} (f : Shared F (Global × (Place × (ℕ × (P × (Bor (List Token) × Unit {0}))))) (Result (X × Bor (List Token)) ReadAnswer)) (read : F) (alloc : Global) (end : Place) (room : ℕ) (reader : P → Reader X) : Type 0 where
+  pub callable : (part : P) (tokens : Bor (List Token)) → f.pre read (alloc, (end, (room, (part, (tokens, tt)))))
+  pub reads : (part : P) (tokens : Bor (List Token)) (given : Result (X × Bor (List Token)) ReadAnswer) → f.post read (alloc, (end, (room, (part, (tokens, tt))))) given → Reads (reader part tokens.now) given
 
--- Each part may be asked for, and is read as reader says. What is left behind it is shorter.
-pub record Reads {F P X : Type 0} (f : Shared F (P × (Bor (List Token) × Unit {0})) (Result (X × Bor (List Token)) ReadAnswer)) (read : F) (reader : P → Reader X) : Type 0 where
-  pub callable : (part : P) (tokens : Bor (List Token)) → f.pre read (part, (tokens, tt))
-  pub gives : (part : P) (tokens : Bor (List Token)) (given : Result (X × Bor (List Token)) ReadAnswer) → f.post read (part, (tokens, tt)) given → Gives (λ x. (x.0, x.1.now)) given (reader part tokens.now)
-  pub shorter : (part : P) (tokens : Bor (List Token)) (given : Result (X × Bor (List Token)) ReadAnswer) → f.post read (part, (tokens, tt)) given → IfOk given (λ x. length x.1.now < length tokens.now)
-
--- Where there is room, both readers read parts with room for one less.
-pub record ReadsNested {E S : Type 0} (e : Shared E (ExpressionPart × (Bor (List Token) × Unit {0})) (Result (ExpressionTree × Bor (List Token)) ReadAnswer)) (s : Shared S (StatementPart × (Bor (List Token) × Unit {0})) (Result (StatementTree × Bor (List Token)) ReadAnswer)) (parser : Parser E S) : Type 0 where
-  pub expressions : 0 < parser.room → Reads e parser.expressions (expression_in parser.end (deeper parser.end (parser.room - 1)))
-  pub statements : 0 < parser.room → Reads s parser.statements (statement_in parser.end (deeper parser.end (parser.room - 1)))
+-- Both readers of a parser read nested parts with the room that it has.
+pub record ReadsNested {E S : Type 0} (e : Shared E (Global × (Place × (ℕ × (ExpressionPart × (Bor (List Token) × Unit {0}))))) (Result (ExpressionTree × Bor (List Token)) ReadAnswer)) (s : Shared S (Global × (Place × (ℕ × (StatementPart × (Bor (List Token) × Unit {0}))))) (Result (StatementTree × Bor (List Token)) ReadAnswer)) (parser : Parser E S) : Type 0 where
+  pub expressions : ReadsParts e parser.expressions parser.alloc parser.end parser.room (expression_part (nested parser))
+  pub statements : ReadsParts s parser.statements parser.alloc parser.end parser.room (statement_part (nested parser))

@@ -1,28 +1,27 @@
 // Expressions, by plain descent (ECMA-262 5.1, section 11).
-ghost use Rattle.std.specs.Prelude.{◌≡◌, ◌<◌, ◌≤◌, length, IfOk};
+ghost use Rattle.std.specs.Prelude.{◌≡◌, ◌<◌, ◌≤◌};
 ghost use Rattle.js_tree.specs.View.{expression_of};
-ghost use Rattle.js_grammar.specs.Reading.{Gives};
 ghost use Rattle.js_grammar.specs.Words.{keyword_of};
-ghost use Rattle.js_grammar.specs.Readers.{row, Shortens};
+ghost use Rattle.js_grammar.specs.Readers.{row};
 ghost use Rattle.js_grammar.specs.Expressions as spec;
-ghost use Rattle.js_grammar.specs.Statements.{deeper};
-ghost use Rattle.js_parser.specs.Nested.{ReadsNested};
+ghost use Rattle.js_reading.specs.Reads.{Reads};
+ghost use Rattle.js_parser.specs.Nested.{ReadsNested, nested};
 
 use crate::nested::{ExpressionPart, StatementPart};
 use crate::parser::Parser;
 use js_grammar::{Form, LeftSide, Turn};
 use js_lexer::keyword_of;
-use js_productions::{
-    Read, assign_node, chained, conditional_node, expect, function_node, in_function, is_accessor,
-    is_target, joined, new_node, next_assign, next_at_level, next_name, next_postfix, next_sign,
-    next_unary, next_update, place_at, read_name, read_parameters, read_word, refused,
-    refused_word, rest_of, row, suffixed_by, unary_node, unbound, update_node,
+use js_reading::{
+    Read, chained, expect, in_function, is_accessor, is_target, joined, next_assign, next_at_level,
+    next_name, next_postfix, next_sign, next_unary, next_update, place_at, read_name,
+    read_parameters, read_word, refused, refused_word, rest_of, row, suffixed_by, unbound,
 };
 use js_tree::{
     BoundName, Expression, ExpressionList, ExpressionNode, Function, ItemList, Keyword, NameList,
     Operand, OperandList, Place, Property, PropertyList, ReadAnswer, ReadKind, Sign, Statement,
     Suffix, SuffixList, SuffixNode, Token, TokenKind, UpdateForm,
 };
+use std::alloc::Global;
 use utf16_text::Text;
 
 /// An expression without parts.
@@ -33,15 +32,13 @@ fn leaf(place: Place, node: ExpressionNode) -> Expression
 }
 
 impl<
-    E: Fn(ExpressionPart, &[Token]) -> Read<'_, Expression>,
-    S: Fn(StatementPart, &[Token]) -> Read<'_, Statement>,
+    E: Fn(Global, Place, u32, ExpressionPart, &[Token]) -> Read<'_, Expression>,
+    S: Fn(Global, Place, u32, StatementPart, &[Token]) -> Read<'_, Statement>,
 > Parser<E, S> {
     #[tactic(auto, unfolding(js_grammar::specs::Expressions::a_part))]
     fn a_part<'a>(&self, form: Form, tokens: &'a [Token]) -> Read<'a, Turn<Expression>>
-        requires reads { ReadsNested E.Fn S.Fn self.now }
-        ensures gives { Gives (λ x. (x.0, x.1.now)) result (spec.a_part self.now.end (deeper self.now.end self.now.room) form tokens.now) }
-        ensures shorter { IfOk result (λ x. length x.1.now < length tokens.now) }
-        ensures shortens { IfOk result (λ x. Shortens x.0 tokens.now x.1.now) }
+        requires { ReadsNested E.Fn S.Fn self.now }
+        ensures { Reads (spec.a_part self.now.end (nested self.now) form tokens.now) result }
     {
         let (value, rest) = self.value(form, tokens)?;
         match next_sign(rest) {
@@ -51,9 +48,8 @@ impl<
     }
 
     fn parts<'a>(&self, form: Form, tokens: &'a [Token]) -> Read<'a, ExpressionList>
-        requires reads { ReadsNested E.Fn S.Fn self.now }
-        ensures gives { Gives (λ x. (x.0, x.1.now)) result (row (spec.a_part self.now.end (deeper self.now.end self.now.room) form) tokens.now) }
-        ensures shorter { IfOk result (λ x. length x.1.now < length tokens.now) }
+        requires { ReadsNested E.Fn S.Fn self.now }
+        ensures { Reads (row (spec.a_part self.now.end (nested self.now) form) tokens.now) result }
     {
         row(self.alloc, tokens, |rest| self.a_part(form, rest))
     }
@@ -61,9 +57,8 @@ impl<
     /// Expressions that commas part.
     #[tactic(auto, unfolding(js_grammar::specs::Expressions::expression))]
     pub fn expression<'a>(&self, form: Form, tokens: &'a [Token]) -> Read<'a, Expression>
-        requires reads { ReadsNested E.Fn S.Fn self.now }
-        ensures gives { Gives (λ x. (x.0, x.1.now)) result (spec.expression self.now.end (deeper self.now.end self.now.room) form tokens.now) }
-        ensures shorter { IfOk result (λ x. length x.1.now < length tokens.now) }
+        requires { ReadsNested E.Fn S.Fn self.now }
+        ensures { Reads (spec.expression self.now.end (nested self.now) form tokens.now) result }
     {
         let place = place_at(self.end, tokens);
         let (all, rest) = self.parts(form, tokens)?;
@@ -73,9 +68,8 @@ impl<
     /// An expression in `(` and `)`.
     #[tactic(auto, unfolding(js_grammar::specs::Expressions::in_parentheses))]
     pub fn in_parentheses<'a>(&self, tokens: &'a [Token]) -> Read<'a, Expression>
-        requires reads { ReadsNested E.Fn S.Fn self.now }
-        ensures gives { Gives (λ x. (x.0, x.1.now)) result (spec.in_parentheses self.now.end (deeper self.now.end self.now.room) tokens.now) }
-        ensures shorter { IfOk result (λ x. length x.1.now < length tokens.now) }
+        requires { ReadsNested E.Fn S.Fn self.now }
+        ensures { Reads (spec.in_parentheses self.now.end (nested self.now) tokens.now) result }
     {
         let rest = expect(self.end, Sign::LeftParenthesis, tokens)?;
         let (inside, rest) = self.expression(Form::Plain, rest)?;
@@ -85,9 +79,8 @@ impl<
 
     #[tactic(auto, unfolding(js_grammar::specs::Expressions::an_argument))]
     fn an_argument<'a>(&self, tokens: &'a [Token]) -> Read<'a, Turn<Expression>>
-        requires reads { ReadsNested E.Fn S.Fn self.now }
-        ensures gives { Gives (λ x. (x.0, x.1.now)) result (spec.an_argument self.now.end (deeper self.now.end self.now.room) tokens.now) }
-        ensures shortens { IfOk result (λ x. Shortens x.0 tokens.now x.1.now) }
+        requires { ReadsNested E.Fn S.Fn self.now }
+        ensures { Reads (spec.an_argument self.now.end (nested self.now) tokens.now) result }
     {
         let (value, rest) = self.value(Form::Plain, tokens)?;
         match next_sign(rest) {
@@ -100,9 +93,8 @@ impl<
     }
 
     fn argument_row<'a>(&self, tokens: &'a [Token]) -> Read<'a, ExpressionList>
-        requires reads { ReadsNested E.Fn S.Fn self.now }
-        ensures gives { Gives (λ x. (x.0, x.1.now)) result (row (spec.an_argument self.now.end (deeper self.now.end self.now.room)) tokens.now) }
-        ensures no_longer { IfOk result (λ x. length x.1.now ≤ length tokens.now) }
+        requires { ReadsNested E.Fn S.Fn self.now }
+        ensures { Reads (row (spec.an_argument self.now.end (nested self.now)) tokens.now) result }
     {
         row(self.alloc, tokens, |rest| self.an_argument(rest))
     }
@@ -110,9 +102,8 @@ impl<
     /// Arguments behind `(`.
     #[tactic(auto, unfolding(js_grammar::specs::Expressions::arguments))]
     fn arguments<'a>(&self, tokens: &'a [Token]) -> Read<'a, ExpressionList>
-        requires reads { ReadsNested E.Fn S.Fn self.now }
-        ensures gives { Gives (λ x. (x.0, x.1.now)) result (spec.arguments self.now.end (deeper self.now.end self.now.room) tokens.now) }
-        ensures no_longer { IfOk result (λ x. length x.1.now ≤ length tokens.now) }
+        requires { ReadsNested E.Fn S.Fn self.now }
+        ensures { Reads (spec.arguments self.now.end (nested self.now) tokens.now) result }
     {
         match next_sign(tokens) {
             Some(Sign::RightParenthesis) => Ok((ExpressionList::new(self.alloc), rest_of(tokens))),
@@ -123,9 +114,8 @@ impl<
     /// An item or a hole of an array literal, or the `]` behind the last.
     #[tactic(auto, unfolding(js_grammar::specs::Expressions::an_item))]
     fn an_item<'a>(&self, tokens: &'a [Token]) -> Read<'a, Turn<Option<Expression>>>
-        requires reads { ReadsNested E.Fn S.Fn self.now }
-        ensures gives { Gives (λ x. (x.0, x.1.now)) result (spec.an_item self.now.end (deeper self.now.end self.now.room) tokens.now) }
-        ensures shortens { IfOk result (λ x. Shortens x.0 tokens.now x.1.now) }
+        requires { ReadsNested E.Fn S.Fn self.now }
+        ensures { Reads (spec.an_item self.now.end (nested self.now) tokens.now) result }
     {
         match next_sign(tokens) {
             Some(Sign::RightBracket) => Ok((Turn::End, rest_of(tokens))),
@@ -136,9 +126,8 @@ impl<
 
     #[tactic(auto, unfolding(js_grammar::specs::Expressions::item_value))]
     fn item_value<'a>(&self, tokens: &'a [Token]) -> Read<'a, Turn<Option<Expression>>>
-        requires reads { ReadsNested E.Fn S.Fn self.now }
-        ensures gives { Gives (λ x. (x.0, x.1.now)) result (spec.item_value self.now.end (deeper self.now.end self.now.room) tokens.now) }
-        ensures shortens { IfOk result (λ x. Shortens x.0 tokens.now x.1.now) }
+        requires { ReadsNested E.Fn S.Fn self.now }
+        ensures { Reads (spec.item_value self.now.end (nested self.now) tokens.now) result }
     {
         let (value, rest) = self.value(Form::Plain, tokens)?;
         match next_sign(rest) {
@@ -151,9 +140,8 @@ impl<
     }
 
     fn items<'a>(&self, tokens: &'a [Token]) -> Read<'a, ItemList>
-        requires reads { ReadsNested E.Fn S.Fn self.now }
-        ensures gives { Gives (λ x. (x.0, x.1.now)) result (row (spec.an_item self.now.end (deeper self.now.end self.now.room)) tokens.now) }
-        ensures no_longer { IfOk result (λ x. length x.1.now ≤ length tokens.now) }
+        requires { ReadsNested E.Fn S.Fn self.now }
+        ensures { Reads (row (spec.an_item self.now.end (nested self.now)) tokens.now) result }
     {
         row(self.alloc, tokens, |rest| self.an_item(rest))
     }
@@ -161,9 +149,8 @@ impl<
     /// A property of an object literal, or the `}` behind the last.
     #[tactic(auto, unfolding(js_grammar::specs::Expressions::a_property))]
     fn a_property<'a>(&self, tokens: &'a [Token]) -> Read<'a, Turn<Property>>
-        requires reads { ReadsNested E.Fn S.Fn self.now }
-        ensures gives { Gives (λ x. (x.0, x.1.now)) result (spec.a_property self.now.end (deeper self.now.end self.now.room) tokens.now) }
-        ensures shortens { IfOk result (λ x. Shortens x.0 tokens.now x.1.now) }
+        requires { ReadsNested E.Fn S.Fn self.now }
+        ensures { Reads (spec.a_property self.now.end (nested self.now) tokens.now) result }
     {
         match next_sign(tokens) {
             Some(Sign::RightBrace) => Ok((Turn::End, rest_of(tokens))),
@@ -173,9 +160,8 @@ impl<
 
     #[tactic(auto, unfolding(js_grammar::specs::Expressions::named_property))]
     fn named_property<'a>(&self, tokens: &'a [Token]) -> Read<'a, Turn<Property>>
-        requires reads { ReadsNested E.Fn S.Fn self.now }
-        ensures gives { Gives (λ x. (x.0, x.1.now)) result (spec.named_property self.now.end (deeper self.now.end self.now.room) tokens.now) }
-        ensures shortens { IfOk result (λ x. Shortens x.0 tokens.now x.1.now) }
+        requires { ReadsNested E.Fn S.Fn self.now }
+        ensures { Reads (spec.named_property self.now.end (nested self.now) tokens.now) result }
     {
         let Some(name) = next_name(self.alloc, tokens)? else {
             return Err(refused(self.end, ReadKind::Unexpected, tokens));
@@ -196,9 +182,8 @@ impl<
     }
 
     fn properties<'a>(&self, tokens: &'a [Token]) -> Read<'a, PropertyList>
-        requires reads { ReadsNested E.Fn S.Fn self.now }
-        ensures gives { Gives (λ x. (x.0, x.1.now)) result (row (spec.a_property self.now.end (deeper self.now.end self.now.room)) tokens.now) }
-        ensures no_longer { IfOk result (λ x. length x.1.now ≤ length tokens.now) }
+        requires { ReadsNested E.Fn S.Fn self.now }
+        ensures { Reads (row (spec.a_property self.now.end (nested self.now)) tokens.now) result }
     {
         row(self.alloc, tokens, |rest| self.a_property(rest))
     }
@@ -210,9 +195,8 @@ impl<
         name: Option<BoundName>,
         tokens: &'a [Token],
     ) -> Read<'a, Function>
-        requires reads { ReadsNested E.Fn S.Fn self.now }
-        ensures gives { Gives (λ x. (x.0, x.1.now)) result (spec.function_from self.now.end (deeper self.now.end self.now.room) name tokens.now) }
-        ensures shorter { IfOk result (λ x. length x.1.now < length tokens.now) }
+        requires { ReadsNested E.Fn S.Fn self.now }
+        ensures { Reads (spec.function_from self.now.end (nested self.now) name tokens.now) result }
     {
         let rest = expect(self.end, Sign::LeftParenthesis, tokens)?;
         let (parameters, rest) = read_parameters(self.alloc, self.end, rest)?;
@@ -232,9 +216,8 @@ impl<
     /// A function expression behind its word.
     #[tactic(auto, unfolding(js_grammar::specs::Expressions::function_expression))]
     fn function_expression<'a>(&self, tokens: &'a [Token]) -> Read<'a, Function>
-        requires reads { ReadsNested E.Fn S.Fn self.now }
-        ensures gives { Gives (λ x. (x.0, x.1.now)) result (spec.function_expression self.now.end (deeper self.now.end self.now.room) tokens.now) }
-        ensures shorter { IfOk result (λ x. length x.1.now < length tokens.now) }
+        requires { ReadsNested E.Fn S.Fn self.now }
+        ensures { Reads (spec.function_expression self.now.end (nested self.now) tokens.now) result }
     {
         match next_sign(tokens) {
             Some(Sign::LeftParenthesis) => self.function_from(None, tokens),
@@ -248,9 +231,8 @@ impl<
     /// Arguments in brackets, or none where they are left out.
     #[tactic(auto, unfolding(js_grammar::specs::Expressions::new_arguments))]
     fn new_arguments<'a>(&self, tokens: &'a [Token]) -> Read<'a, ExpressionList>
-        requires reads { ReadsNested E.Fn S.Fn self.now }
-        ensures gives { Gives (λ x. (x.0, x.1.now)) result (spec.new_arguments self.now.end (deeper self.now.end self.now.room) tokens.now) }
-        ensures no_longer { IfOk result (λ x. length x.1.now ≤ length tokens.now) }
+        requires { ReadsNested E.Fn S.Fn self.now }
+        ensures { Reads (spec.new_arguments self.now.end (nested self.now) tokens.now) result }
     {
         match next_sign(tokens) {
             Some(Sign::LeftParenthesis) => self.arguments(rest_of(tokens)),
@@ -261,20 +243,21 @@ impl<
     /// `new` behind its word.
     #[tactic(auto, unfolding(js_grammar::specs::Expressions::new_expression))]
     fn new_expression<'a>(&self, place: Place, tokens: &'a [Token]) -> Read<'a, Expression>
-        requires reads { ReadsNested E.Fn S.Fn self.now }
-        ensures gives { Gives (λ x. (x.0, x.1.now)) result (spec.new_expression self.now.end (deeper self.now.end self.now.room) place tokens.now) }
-        ensures shorter { IfOk result (λ x. length x.1.now < length tokens.now) }
+        requires { ReadsNested E.Fn S.Fn self.now }
+        ensures { Reads (spec.new_expression self.now.end (nested self.now) place tokens.now) result }
     {
         let (callee, rest) = self.callee(tokens)?;
         let (given, rest) = self.new_arguments(rest)?;
-        Ok((new_node(self.alloc, place, callee, given)?, rest))
+        Ok((
+            Expression::construction(self.alloc, place, callee, given)?,
+            rest,
+        ))
     }
 
     /// An expression that begins with a word, behind that word.
     fn word_value<'a>(&self, word: &Text, place: Place, tokens: &'a [Token]) -> Read<'a, Expression>
-        requires reads { ReadsNested E.Fn S.Fn self.now }
-        ensures gives { Gives (λ x. (x.0, x.1.now)) result (spec.word_value self.now.end (deeper self.now.end self.now.room) (keyword_of word.now) word.now place tokens.now) }
-        ensures no_longer { IfOk result (λ x. length x.1.now ≤ length tokens.now) }
+        requires { ReadsNested E.Fn S.Fn self.now }
+        ensures { Reads (spec.word_value self.now.end (nested self.now) (keyword_of word.now) word.now place tokens.now) result }
     {
         match keyword_of(word.units()) {
             None => {
@@ -288,7 +271,7 @@ impl<
             Some(Keyword::New) => self.new_expression(place, tokens),
             Some(Keyword::Function) => {
                 let (function, rest) = self.function_expression(tokens)?;
-                Ok((function_node(self.alloc, place, function)?, rest))
+                Ok((Expression::function(self.alloc, place, function)?, rest))
             }
             Some(keyword) => Err(ReadAnswer::Refused(refused_word(keyword), place)),
         }
@@ -297,9 +280,8 @@ impl<
     /// An expression without operators and suffixes.
     #[tactic(auto, unfolding(js_grammar::specs::Expressions::primary))]
     fn primary<'a>(&self, tokens: &'a [Token]) -> Read<'a, Expression>
-        requires reads { ReadsNested E.Fn S.Fn self.now }
-        ensures gives { Gives (λ x. (x.0, x.1.now)) result (spec.primary self.now.end (deeper self.now.end self.now.room) tokens.now) }
-        ensures shorter { IfOk result (λ x. length x.1.now < length tokens.now) }
+        requires { ReadsNested E.Fn S.Fn self.now }
+        ensures { Reads (spec.primary self.now.end (nested self.now) tokens.now) result }
     {
         let [token, rest @ ..] = tokens else {
             return Err(refused(self.end, ReadKind::Unexpected, tokens));
@@ -333,9 +315,8 @@ impl<
     /// A suffix, where one begins here.
     #[tactic(auto, unfolding(js_grammar::specs::Expressions::a_suffix))]
     fn a_suffix<'a>(&self, left: LeftSide, tokens: &'a [Token]) -> Read<'a, Turn<Suffix>>
-        requires reads { ReadsNested E.Fn S.Fn self.now }
-        ensures gives { Gives (λ x. (x.0, x.1.now)) result (spec.a_suffix self.now.end (deeper self.now.end self.now.room) left tokens.now) }
-        ensures shortens { IfOk result (λ x. Shortens x.0 tokens.now x.1.now) }
+        requires { ReadsNested E.Fn S.Fn self.now }
+        ensures { Reads (spec.a_suffix self.now.end (nested self.now) left tokens.now) result }
     {
         let place = place_at(self.end, tokens);
         match (left, next_sign(tokens)) {
@@ -360,9 +341,8 @@ impl<
     }
 
     fn suffixes<'a>(&self, left: LeftSide, tokens: &'a [Token]) -> Read<'a, SuffixList>
-        requires reads { ReadsNested E.Fn S.Fn self.now }
-        ensures gives { Gives (λ x. (x.0, x.1.now)) result (row (spec.a_suffix self.now.end (deeper self.now.end self.now.room) left) tokens.now) }
-        ensures no_longer { IfOk result (λ x. length x.1.now ≤ length tokens.now) }
+        requires { ReadsNested E.Fn S.Fn self.now }
+        ensures { Reads (row (spec.a_suffix self.now.end (nested self.now) left) tokens.now) result }
     {
         row(self.alloc, tokens, |rest| self.a_suffix(left, rest))
     }
@@ -370,9 +350,8 @@ impl<
     /// An expression with its members, indexes and calls.
     #[tactic(auto, unfolding(js_grammar::specs::Expressions::suffixed))]
     pub fn suffixed<'a>(&self, left: LeftSide, tokens: &'a [Token]) -> Read<'a, Expression>
-        requires reads { ReadsNested E.Fn S.Fn self.now }
-        ensures gives { Gives (λ x. (x.0, x.1.now)) result (spec.suffixed self.now.end (deeper self.now.end self.now.room) left tokens.now) }
-        ensures shorter { IfOk result (λ x. length x.1.now < length tokens.now) }
+        requires { ReadsNested E.Fn S.Fn self.now }
+        ensures { Reads (spec.suffixed self.now.end (nested self.now) left tokens.now) result }
     {
         let place = place_at(self.end, tokens);
         let (first, rest) = self.primary(tokens)?;
@@ -383,9 +362,8 @@ impl<
     /// An expression, and `++` or `--` behind it on the same line.
     #[tactic(auto, unfolding(js_grammar::specs::Expressions::postfix))]
     fn postfix<'a>(&self, tokens: &'a [Token]) -> Read<'a, Expression>
-        requires reads { ReadsNested E.Fn S.Fn self.now }
-        ensures gives { Gives (λ x. (x.0, x.1.now)) result (spec.postfix self.now.end (deeper self.now.end self.now.room) tokens.now) }
-        ensures shorter { IfOk result (λ x. length x.1.now < length tokens.now) }
+        requires { ReadsNested E.Fn S.Fn self.now }
+        ensures { Reads (spec.postfix self.now.end (nested self.now) tokens.now) result }
     {
         let (target, rest) = self.suffixed(LeftSide::Call, tokens)?;
         let Some(op) = next_postfix(rest) else {
@@ -395,21 +373,20 @@ impl<
             return Err(refused(self.end, ReadKind::Unexpected, rest));
         }
         let place = place_at(self.end, rest);
-        let node = update_node(self.alloc, place, UpdateForm::Postfix, op, target)?;
+        let node = Expression::update(self.alloc, place, UpdateForm::Postfix, op, target)?;
         Ok((node, rest_of(rest)))
     }
 
     /// An expression with its prefix operators.
     #[tactic(auto, unfolding(js_grammar::specs::Expressions::unary))]
     pub fn unary<'a>(&self, tokens: &'a [Token]) -> Read<'a, Expression>
-        requires reads { ReadsNested E.Fn S.Fn self.now }
-        ensures gives { Gives (λ x. (x.0, x.1.now)) result (spec.unary self.now.end (deeper self.now.end self.now.room) tokens.now) }
-        ensures shorter { IfOk result (λ x. length x.1.now < length tokens.now) }
+        requires { ReadsNested E.Fn S.Fn self.now }
+        ensures { Reads (spec.unary self.now.end (nested self.now) tokens.now) result }
     {
         let place = place_at(self.end, tokens);
         if let Some(op) = next_unary(tokens) {
             let (operand, rest) = self.operand(rest_of(tokens))?;
-            return Ok((unary_node(self.alloc, place, op, operand)?, rest));
+            return Ok((Expression::unary(self.alloc, place, op, operand)?, rest));
         }
         let Some(op) = next_update(tokens) else {
             return self.postfix(tokens);
@@ -418,7 +395,7 @@ impl<
         if !is_target(&target) {
             return Err(refused(self.end, ReadKind::Unexpected, tokens));
         }
-        let node = update_node(self.alloc, place, UpdateForm::Prefix, op, target)?;
+        let node = Expression::update(self.alloc, place, UpdateForm::Prefix, op, target)?;
         Ok((node, rest))
     }
 
@@ -428,8 +405,7 @@ impl<
     fn an_operand<'a>(&self, form: Form, level: u32, tokens: &'a [Token]) -> Read<'a, Turn<Operand>>
         requires reads { ReadsNested E.Fn S.Fn self.now }
         requires level { level < 10 }
-        ensures gives { Gives (λ x. (x.0, x.1.now)) result (spec.an_operand self.now.end form level (spec.level self.now.end (deeper self.now.end self.now.room) form level) tokens.now) }
-        ensures shortens { IfOk result (λ x. Shortens x.0 tokens.now x.1.now) }
+        ensures { Reads (spec.an_operand self.now.end form level (spec.level self.now.end (nested self.now) form level) tokens.now) result }
     {
         let Some(op) = next_at_level(form, level, tokens) else {
             return Ok((Turn::End, tokens));
@@ -443,8 +419,7 @@ impl<
     fn operands<'a>(&self, form: Form, level: u32, tokens: &'a [Token]) -> Read<'a, OperandList>
         requires reads { ReadsNested E.Fn S.Fn self.now }
         requires level { level < 10 }
-        ensures gives { Gives (λ x. (x.0, x.1.now)) result (row (spec.an_operand self.now.end form level (spec.level self.now.end (deeper self.now.end self.now.room) form level)) tokens.now) }
-        ensures no_longer { IfOk result (λ x. length x.1.now ≤ length tokens.now) }
+        ensures { Reads (row (spec.an_operand self.now.end form level (spec.level self.now.end (nested self.now) form level)) tokens.now) result }
     {
         row(
             self.alloc,
@@ -452,8 +427,7 @@ impl<
             |rest: &[Token]|
                 requires reads { ReadsNested E.Fn S.Fn self.now }
                 requires level { level < 10 }
-                ensures gives { Gives (λ x. (x.0, x.1.now)) result (spec.an_operand self.entry.now.end form level (spec.level self.entry.now.end (deeper self.entry.now.end self.entry.now.room) form level) rest.now) }
-                ensures shortens { IfOk result (λ x. Shortens x.0 rest.now x.1.now) }
+                ensures { Reads (spec.an_operand self.entry.now.end form level (spec.level self.entry.now.end (nested self.entry.now) form level) rest.now) result }
             { self.an_operand(form, level, rest) },
         )
     }
@@ -464,8 +438,7 @@ impl<
     fn level<'a>(&self, form: Form, level: u32, tokens: &'a [Token]) -> Read<'a, Expression>
         requires reads { ReadsNested E.Fn S.Fn self.now }
         requires level { level ≤ 10 }
-        ensures gives { Gives (λ x. (x.0, x.1.now)) result (spec.level self.now.end (deeper self.now.end self.now.room) form level tokens.now) }
-        ensures shorter { IfOk result (λ x. length x.1.now < length tokens.now) }
+        ensures { Reads (spec.level self.now.end (nested self.now) form level tokens.now) result }
     {
         let place = place_at(self.end, tokens);
         let (mut value, mut rest) = self.unary(tokens)?;
@@ -479,9 +452,8 @@ impl<
 
     #[tactic(auto, unfolding(js_grammar::specs::Expressions::conditional))]
     fn conditional<'a>(&self, form: Form, tokens: &'a [Token]) -> Read<'a, Expression>
-        requires reads { ReadsNested E.Fn S.Fn self.now }
-        ensures gives { Gives (λ x. (x.0, x.1.now)) result (spec.conditional self.now.end (deeper self.now.end self.now.room) form tokens.now) }
-        ensures shorter { IfOk result (λ x. length x.1.now < length tokens.now) }
+        requires { ReadsNested E.Fn S.Fn self.now }
+        ensures { Reads (spec.conditional self.now.end (nested self.now) form tokens.now) result }
     {
         let place = place_at(self.end, tokens);
         let (condition, rest) = self.level(form, 10, tokens)?;
@@ -491,15 +463,14 @@ impl<
         let (where_true, rest) = self.value(form, rest_of(rest))?;
         let rest = expect(self.end, Sign::Colon, rest)?;
         let (where_false, rest) = self.value(form, rest)?;
-        let node = conditional_node(self.alloc, place, condition, where_true, where_false)?;
+        let node = Expression::conditional(self.alloc, place, condition, where_true, where_false)?;
         Ok((node, rest))
     }
 
     #[tactic(auto, unfolding(js_grammar::specs::Expressions::assignment))]
     pub fn assignment<'a>(&self, form: Form, tokens: &'a [Token]) -> Read<'a, Expression>
-        requires reads { ReadsNested E.Fn S.Fn self.now }
-        ensures gives { Gives (λ x. (x.0, x.1.now)) result (spec.assignment self.now.end (deeper self.now.end self.now.room) form tokens.now) }
-        ensures shorter { IfOk result (λ x. length x.1.now < length tokens.now) }
+        requires { ReadsNested E.Fn S.Fn self.now }
+        ensures { Reads (spec.assignment self.now.end (nested self.now) form tokens.now) result }
     {
         let (target, rest) = self.conditional(form, tokens)?;
         let Some(op) = next_assign(rest) else {
@@ -510,6 +481,9 @@ impl<
         }
         let place = place_at(self.end, rest);
         let (value, rest) = self.value(form, rest_of(rest))?;
-        Ok((assign_node(self.alloc, place, target, op, value)?, rest))
+        Ok((
+            Expression::assignment(self.alloc, place, target, op, value)?,
+            rest,
+        ))
     }
 }

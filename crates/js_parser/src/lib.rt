@@ -1,7 +1,7 @@
 //! The parser of scripts: `read_script` gives the script that a text spells, or its first refusal.
 //!
 //! What a text spells is `script_of_text` of js_grammar, by ECMA-262 edition 5.1, sections 7 and 11 to 14, cut to this
-//! profile. It stands on js_lexer, js_productions, js_grammar and js_tree.
+//! profile. It stands on js_lexer, js_reading, js_grammar and js_tree.
 #![tactic(auto)]
 
 mod expressions;

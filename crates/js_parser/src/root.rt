@@ -1,17 +1,16 @@
-// Nested parts, each read by a parser with room for one part less.
-ghost use Rattle.std.specs.Prelude.{◌≡◌, ◌<◌, ◌-◌, length, IfOk};
-ghost use Rattle.js_grammar.specs.Reading.{Gives};
+// Nested parts, each read by a parser that has room for one part less.
 ghost use Rattle.js_grammar.specs.Statements.{deeper};
-ghost use Rattle.js_parser.specs.Nested.{expression_in, statement_in};
+ghost use Rattle.js_reading.specs.Reads.{Reads};
+ghost use Rattle.js_parser.specs.Nested.{expression_part, statement_part};
 
 use crate::nested::{ExpressionPart, StatementPart};
 use crate::parser::Parser;
 use js_grammar::LeftSide;
-use js_productions::Read;
-use js_tree::{Expression, Place, Statement, Token};
+use js_reading::{Read, refused};
+use js_tree::{Expression, Place, ReadKind, Statement, Token};
 use std::alloc::Global;
 
-/// An expression in which so many parts may be nested.
+/// A nested expression, with room for so many nested parts, itself among them.
 #[cycle(parts)]
 pub fn read_expression<'a>(
     alloc: Global,
@@ -20,24 +19,18 @@ pub fn read_expression<'a>(
     part: ExpressionPart,
     tokens: &'a [Token],
 ) -> Read<'a, Expression>
-    ensures gives { Gives (λ x. (x.0, x.1.now)) result (expression_in end (deeper end room) part tokens.now) }
-    ensures shorter { IfOk result (λ x. length x.1.now < length tokens.now) }
+    ensures { Reads (expression_part (deeper end room) part tokens.now) result }
 {
-    let parser = Parser::new(
+    if room == 0 {
+        return Err(refused(end, ReadKind::TooDeep, tokens));
+    }
+    let parser = Parser {
         alloc,
         end,
-        room,
-        |part: ExpressionPart, tokens: &[Token]|
-            requires { 0 < room }
-            ensures gives { Gives (λ x. (x.0, x.1.now)) result (expression_in end (deeper end (room - 1)) part tokens.now) }
-            ensures shorter { IfOk result (λ x. length x.1.now < length tokens.now) }
-        { read_expression(alloc, end, room - 1, part, tokens) },
-        |part: StatementPart, tokens: &[Token]|
-            requires { 0 < room }
-            ensures gives { Gives (λ x. (x.0, x.1.now)) result (statement_in end (deeper end (room - 1)) part tokens.now) }
-            ensures shorter { IfOk result (λ x. length x.1.now < length tokens.now) }
-        { read_statement(alloc, end, room - 1, part, tokens) },
-    );
+        room: room - 1,
+        expressions: read_expression,
+        statements: read_statement,
+    };
     match part {
         ExpressionPart::Value(form) => parser.assignment(form, tokens),
         ExpressionPart::Operand => parser.unary(tokens),
@@ -45,7 +38,7 @@ pub fn read_expression<'a>(
     }
 }
 
-/// A statement in which so many parts may be nested.
+/// A nested statement, with room for so many nested parts, itself among them.
 #[cycle(parts)]
 pub fn read_statement<'a>(
     alloc: Global,
@@ -54,24 +47,18 @@ pub fn read_statement<'a>(
     part: StatementPart,
     tokens: &'a [Token],
 ) -> Read<'a, Statement>
-    ensures gives { Gives (λ x. (x.0, x.1.now)) result (statement_in end (deeper end room) part tokens.now) }
-    ensures shorter { IfOk result (λ x. length x.1.now < length tokens.now) }
+    ensures { Reads (statement_part (deeper end room) part tokens.now) result }
 {
-    let parser = Parser::new(
+    if room == 0 {
+        return Err(refused(end, ReadKind::TooDeep, tokens));
+    }
+    let parser = Parser {
         alloc,
         end,
-        room,
-        |part: ExpressionPart, tokens: &[Token]|
-            requires { 0 < room }
-            ensures gives { Gives (λ x. (x.0, x.1.now)) result (expression_in end (deeper end (room - 1)) part tokens.now) }
-            ensures shorter { IfOk result (λ x. length x.1.now < length tokens.now) }
-        { read_expression(alloc, end, room - 1, part, tokens) },
-        |part: StatementPart, tokens: &[Token]|
-            requires { 0 < room }
-            ensures gives { Gives (λ x. (x.0, x.1.now)) result (statement_in end (deeper end (room - 1)) part tokens.now) }
-            ensures shorter { IfOk result (λ x. length x.1.now < length tokens.now) }
-        { read_statement(alloc, end, room - 1, part, tokens) },
-    );
+        room: room - 1,
+        expressions: read_expression,
+        statements: read_statement,
+    };
     match part {
         StatementPart::Statement(around) => parser.statement_in(around, tokens),
         StatementPart::Block(around) => parser.block_in(around, tokens),

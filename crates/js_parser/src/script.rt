@@ -1,14 +1,12 @@
 // Whole scripts (ECMA-262 5.1, section 14).
-ghost use Rattle.std.specs.Prelude.{◌≡◌, ◌<◌, ◌≤◌, ◌-◌, length, IfOk};
+ghost use Rattle.std.specs.Prelude.{◌≤◌, length};
 ghost use Rattle.js_grammar.specs.Reading.{Gives};
-ghost use Rattle.js_grammar.specs.Statements.{deeper, script_within, script_of_text};
-ghost use Rattle.js_parser.specs.Nested.{expression_in, statement_in};
+ghost use Rattle.js_grammar.specs.Statements.{script_within, script_of_text};
 
-use crate::nested::{ExpressionPart, StatementPart};
 use crate::parser::Parser;
 use crate::root::{read_expression, read_statement};
 use js_lexer::{lex, place_after};
-use js_productions::at_top;
+use js_reading::at_top;
 use js_tree::{Place, ReadAnswer, ReadKind, Script, StatementList, Token};
 use std::alloc::Global;
 use utf16_text::Text;
@@ -27,21 +25,13 @@ pub fn read_tokens(
 ) -> Result<StatementList, ReadAnswer>
     ensures { Gives (λ x. x) result (script_within end room tokens.now) }
 {
-    let parser = Parser::new(
+    let parser = Parser {
         alloc,
         end,
         room,
-        |part: ExpressionPart, tokens: &[Token]|
-            requires { 0 < room }
-            ensures gives { Gives (λ x. (x.0, x.1.now)) result (expression_in end (deeper end (room - 1)) part tokens.now) }
-            ensures shorter { IfOk result (λ x. length x.1.now < length tokens.now) }
-        { read_expression(alloc, end, room - 1, part, tokens) },
-        |part: StatementPart, tokens: &[Token]|
-            requires { 0 < room }
-            ensures gives { Gives (λ x. (x.0, x.1.now)) result (statement_in end (deeper end (room - 1)) part tokens.now) }
-            ensures shorter { IfOk result (λ x. length x.1.now < length tokens.now) }
-        { read_statement(alloc, end, room - 1, part, tokens) },
-    );
+        expressions: read_expression,
+        statements: read_statement,
+    };
     let (body, rest) = parser.statements(at_top(), tokens)?;
     match rest {
         [] => Ok(body),

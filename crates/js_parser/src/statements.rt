@@ -1,40 +1,36 @@
 // Statements, by plain descent (ECMA-262 5.1, sections 12 and 13).
-ghost use Rattle.std.specs.Prelude.{◌≡◌, ◌<◌, ◌≤◌, length, IfOk};
 ghost use Rattle.js_tree.specs.View.{target_of};
-ghost use Rattle.js_grammar.specs.Reading.{Gives};
-ghost use Rattle.js_grammar.specs.Readers.{row, next_keyword, Shortens};
+ghost use Rattle.js_tree.specs.Parts.{start_or_none};
+ghost use Rattle.js_grammar.specs.Readers.{row, next_keyword};
 ghost use Rattle.js_grammar.specs.Expressions.{a_statement};
 ghost use Rattle.js_grammar.specs.Statements as spec;
-ghost use Rattle.js_grammar.specs.Statements.{deeper};
-ghost use Rattle.js_parser.specs.Nested.{ReadsNested};
-ghost use Rattle.js_tree.specs.Parts.{start_or_none};
+ghost use Rattle.js_reading.specs.Reads.{Reads};
+ghost use Rattle.js_parser.specs.Nested.{ReadsNested, nested};
 
 use crate::nested::{ExpressionPart, StatementPart};
 use crate::parser::Parser;
 use js_grammar::{Around, Form, Turn};
 use js_lexer::keyword_of;
-use js_productions::{
-    Read, alone, before_in, begins_line, broken, closes, continued, declare_node, do_node, ends,
-    evaluate_node, expect, expect_while, for_in_node, for_node, has_part, if_node, in_loop,
-    in_switch, inside, is_sign, is_target, next_keyword, next_sign, place_at, read_name,
-    read_semicolon, refused, rest_of, return_node, row, semicolon_if, switch_node, throw_node,
-    try_node, while_node, with_default,
+use js_reading::{
+    Read, alone, before_in, begins_line, broken, closes, continued, ends, expect, expect_while,
+    has_part, in_loop, in_switch, inside, is_sign, is_target, next_keyword, next_sign, place_at,
+    read_name, read_semicolon, refused, rest_of, row, semicolon_if, with_default,
 };
 use js_tree::{
     Branch, BranchList, Catch, Clause, ClauseList, Declared, DeclaredList, Expression, ForStart,
     ForTarget, Keyword, Place, ReadAnswer, ReadKind, Sign, Statement, StatementList, StatementNode,
     Token, TokenKind,
 };
+use std::alloc::Global;
 
 impl<
-    E: Fn(ExpressionPart, &[Token]) -> Read<'_, Expression>,
-    S: Fn(StatementPart, &[Token]) -> Read<'_, Statement>,
+    E: Fn(Global, Place, u32, ExpressionPart, &[Token]) -> Read<'_, Expression>,
+    S: Fn(Global, Place, u32, StatementPart, &[Token]) -> Read<'_, Statement>,
 > Parser<E, S> {
     #[tactic(auto, unfolding(js_grammar::specs::Expressions::a_statement))]
     fn a_statement<'a>(&self, around: Around, tokens: &'a [Token]) -> Read<'a, Turn<Statement>>
-        requires reads { ReadsNested E.Fn S.Fn self.now }
-        ensures gives { Gives (λ x. (x.0, x.1.now)) result (a_statement (deeper self.now.end self.now.room) around tokens.now) }
-        ensures shortens { IfOk result (λ x. Shortens x.0 tokens.now x.1.now) }
+        requires { ReadsNested E.Fn S.Fn self.now }
+        ensures { Reads (a_statement (nested self.now) around tokens.now) result }
     {
         if closes(tokens) {
             return Ok((Turn::End, tokens));
@@ -45,9 +41,8 @@ impl<
 
     /// Statements up to what ends them.
     pub fn statements<'a>(&self, around: Around, tokens: &'a [Token]) -> Read<'a, StatementList>
-        requires reads { ReadsNested E.Fn S.Fn self.now }
-        ensures gives { Gives (λ x. (x.0, x.1.now)) result (row (a_statement (deeper self.now.end self.now.room) around) tokens.now) }
-        ensures no_longer { IfOk result (λ x. length x.1.now ≤ length tokens.now) }
+        requires { ReadsNested E.Fn S.Fn self.now }
+        ensures { Reads (row (a_statement (nested self.now) around) tokens.now) result }
     {
         row(self.alloc, tokens, |rest| self.a_statement(around, rest))
     }
@@ -55,14 +50,13 @@ impl<
     /// An expression as a statement.
     #[tactic(auto, unfolding(js_grammar::specs::Statements::evaluated))]
     fn evaluated<'a>(&self, tokens: &'a [Token]) -> Read<'a, Statement>
-        requires reads { ReadsNested E.Fn S.Fn self.now }
-        ensures gives { Gives (λ x. (x.0, x.1.now)) result (spec.evaluated self.now.end (deeper self.now.end self.now.room) tokens.now) }
-        ensures shorter { IfOk result (λ x. length x.1.now < length tokens.now) }
+        requires { ReadsNested E.Fn S.Fn self.now }
+        ensures { Reads (spec.evaluated self.now.end (nested self.now) tokens.now) result }
     {
         let place = place_at(self.end, tokens);
         let (value, rest) = self.expression(Form::Plain, tokens)?;
         let rest = read_semicolon(self.end, rest)?;
-        Ok((evaluate_node(self.alloc, place, value)?, rest))
+        Ok((Statement::expression(self.alloc, place, value)?, rest))
     }
 
     /// A block behind its `{`.
@@ -73,9 +67,8 @@ impl<
         place: Place,
         tokens: &'a [Token],
     ) -> Read<'a, Statement>
-        requires reads { ReadsNested E.Fn S.Fn self.now }
-        ensures gives { Gives (λ x. (x.0, x.1.now)) result (spec.block_from self.now.end (deeper self.now.end self.now.room) around place tokens.now) }
-        ensures shorter { IfOk result (λ x. length x.1.now < length tokens.now) }
+        requires { ReadsNested E.Fn S.Fn self.now }
+        ensures { Reads (spec.block_from self.now.end (nested self.now) around place tokens.now) result }
     {
         let (body, rest) = self.statements(inside(around), tokens)?;
         let rest = expect(self.end, Sign::RightBrace, rest)?;
@@ -85,9 +78,8 @@ impl<
 
     #[tactic(auto, unfolding(js_grammar::specs::Statements::block))]
     pub fn block_in<'a>(&self, around: Around, tokens: &'a [Token]) -> Read<'a, Statement>
-        requires reads { ReadsNested E.Fn S.Fn self.now }
-        ensures gives { Gives (λ x. (x.0, x.1.now)) result (spec.block self.now.end (deeper self.now.end self.now.room) around tokens.now) }
-        ensures shorter { IfOk result (λ x. length x.1.now < length tokens.now) }
+        requires { ReadsNested E.Fn S.Fn self.now }
+        ensures { Reads (spec.block self.now.end (nested self.now) around tokens.now) result }
     {
         let place = place_at(self.end, tokens);
         let rest = expect(self.end, Sign::LeftBrace, tokens)?;
@@ -96,9 +88,8 @@ impl<
 
     #[tactic(auto, unfolding(js_grammar::specs::Statements::first_value))]
     fn first_value<'a>(&self, form: Form, tokens: &'a [Token]) -> Read<'a, Option<Expression>>
-        requires reads { ReadsNested E.Fn S.Fn self.now }
-        ensures gives { Gives (λ x. (x.0, x.1.now)) result (spec.first_value self.now.end (deeper self.now.end self.now.room) form tokens.now) }
-        ensures no_longer { IfOk result (λ x. length x.1.now ≤ length tokens.now) }
+        requires { ReadsNested E.Fn S.Fn self.now }
+        ensures { Reads (spec.first_value self.now.end (nested self.now) form tokens.now) result }
     {
         match next_sign(tokens) {
             Some(Sign::Assign) => {
@@ -112,9 +103,8 @@ impl<
     /// A declared name, and whether a comma stands behind it.
     #[tactic(auto, unfolding(js_grammar::specs::Statements::a_declared))]
     fn a_declared<'a>(&self, form: Form, tokens: &'a [Token]) -> Read<'a, Turn<Declared>>
-        requires reads { ReadsNested E.Fn S.Fn self.now }
-        ensures gives { Gives (λ x. (x.0, x.1.now)) result (spec.a_declared self.now.end (deeper self.now.end self.now.room) form tokens.now) }
-        ensures shortens { IfOk result (λ x. Shortens x.0 tokens.now x.1.now) }
+        requires { ReadsNested E.Fn S.Fn self.now }
+        ensures { Reads (spec.a_declared self.now.end (nested self.now) form tokens.now) result }
     {
         let (name, rest) = read_name(self.alloc, self.end, tokens)?;
         let (value, rest) = self.first_value(form, rest)?;
@@ -126,9 +116,8 @@ impl<
     }
 
     fn declared<'a>(&self, form: Form, tokens: &'a [Token]) -> Read<'a, DeclaredList>
-        requires reads { ReadsNested E.Fn S.Fn self.now }
-        ensures gives { Gives (λ x. (x.0, x.1.now)) result (row (spec.a_declared self.now.end (deeper self.now.end self.now.room) form) tokens.now) }
-        ensures no_longer { IfOk result (λ x. length x.1.now ≤ length tokens.now) }
+        requires { ReadsNested E.Fn S.Fn self.now }
+        ensures { Reads (row (spec.a_declared self.now.end (nested self.now) form) tokens.now) result }
     {
         row(self.alloc, tokens, |rest| self.a_declared(form, rest))
     }
@@ -136,9 +125,8 @@ impl<
     /// `var` behind its word.
     #[tactic(auto, unfolding(js_grammar::specs::Statements::var_statement))]
     fn var_statement<'a>(&self, place: Place, tokens: &'a [Token]) -> Read<'a, Statement>
-        requires reads { ReadsNested E.Fn S.Fn self.now }
-        ensures gives { Gives (λ x. (x.0, x.1.now)) result (spec.var_statement self.now.end (deeper self.now.end self.now.room) place tokens.now) }
-        ensures no_longer { IfOk result (λ x. length x.1.now ≤ length tokens.now) }
+        requires { ReadsNested E.Fn S.Fn self.now }
+        ensures { Reads (spec.var_statement self.now.end (nested self.now) place tokens.now) result }
     {
         let (names, rest) = self.declared(Form::Plain, tokens)?;
         let rest = read_semicolon(self.end, rest)?;
@@ -149,9 +137,8 @@ impl<
     /// A condition in brackets and what is done where it holds.
     #[tactic(auto, unfolding(js_grammar::specs::Statements::one_branch))]
     fn one_branch<'a>(&self, around: Around, tokens: &'a [Token]) -> Read<'a, Branch>
-        requires reads { ReadsNested E.Fn S.Fn self.now }
-        ensures gives { Gives (λ x. (x.0, x.1.now)) result (spec.one_branch self.now.end (deeper self.now.end self.now.room) around tokens.now) }
-        ensures shorter { IfOk result (λ x. length x.1.now < length tokens.now) }
+        requires { ReadsNested E.Fn S.Fn self.now }
+        ensures { Reads (spec.one_branch self.now.end (nested self.now) around tokens.now) result }
     {
         let (condition, rest) = self.in_parentheses(tokens)?;
         let (body, rest) = self.statement(inside(around), rest)?;
@@ -161,9 +148,8 @@ impl<
     /// A branch, and whether `else if` stands behind it.
     #[tactic(auto, unfolding(js_grammar::specs::Statements::a_branch))]
     fn a_branch<'a>(&self, around: Around, tokens: &'a [Token]) -> Read<'a, Turn<Branch>>
-        requires reads { ReadsNested E.Fn S.Fn self.now }
-        ensures gives { Gives (λ x. (x.0, x.1.now)) result (spec.a_branch self.now.end (deeper self.now.end self.now.room) around tokens.now) }
-        ensures shortens { IfOk result (λ x. Shortens x.0 tokens.now x.1.now) }
+        requires { ReadsNested E.Fn S.Fn self.now }
+        ensures { Reads (spec.a_branch self.now.end (nested self.now) around tokens.now) result }
     {
         let (one, rest) = self.one_branch(around, tokens)?;
         let behind = rest_of(rest);
@@ -174,9 +160,8 @@ impl<
     }
 
     fn branches<'a>(&self, around: Around, tokens: &'a [Token]) -> Read<'a, BranchList>
-        requires reads { ReadsNested E.Fn S.Fn self.now }
-        ensures gives { Gives (λ x. (x.0, x.1.now)) result (row (spec.a_branch self.now.end (deeper self.now.end self.now.room) around) tokens.now) }
-        ensures no_longer { IfOk result (λ x. length x.1.now ≤ length tokens.now) }
+        requires { ReadsNested E.Fn S.Fn self.now }
+        ensures { Reads (row (spec.a_branch self.now.end (nested self.now) around) tokens.now) result }
     {
         row(self.alloc, tokens, |rest| self.a_branch(around, rest))
     }
@@ -184,9 +169,8 @@ impl<
     /// What is done where no condition holds.
     #[tactic(auto, unfolding(js_grammar::specs::Statements::otherwise))]
     fn otherwise<'a>(&self, around: Around, tokens: &'a [Token]) -> Read<'a, Option<Statement>>
-        requires reads { ReadsNested E.Fn S.Fn self.now }
-        ensures gives { Gives (λ x. (x.0, x.1.now)) result (spec.otherwise self.now.end (deeper self.now.end self.now.room) around tokens.now) }
-        ensures no_longer { IfOk result (λ x. length x.1.now ≤ length tokens.now) }
+        requires { ReadsNested E.Fn S.Fn self.now }
+        ensures { Reads (spec.otherwise self.now.end (nested self.now) around tokens.now) result }
     {
         match next_keyword(tokens) {
             Some(Keyword::Else) => {
@@ -205,13 +189,12 @@ impl<
         place: Place,
         tokens: &'a [Token],
     ) -> Read<'a, Statement>
-        requires reads { ReadsNested E.Fn S.Fn self.now }
-        ensures gives { Gives (λ x. (x.0, x.1.now)) result (spec.if_statement self.now.end (deeper self.now.end self.now.room) around place tokens.now) }
-        ensures no_longer { IfOk result (λ x. length x.1.now ≤ length tokens.now) }
+        requires { ReadsNested E.Fn S.Fn self.now }
+        ensures { Reads (spec.if_statement self.now.end (nested self.now) around place tokens.now) result }
     {
         let (branches, rest) = self.branches(around, tokens)?;
         let (last, rest) = self.otherwise(around, rest)?;
-        Ok((if_node(self.alloc, place, branches, last)?, rest))
+        Ok((Statement::if_else(self.alloc, place, branches, last)?, rest))
     }
 
     /// `do` behind its word.
@@ -222,15 +205,14 @@ impl<
         place: Place,
         tokens: &'a [Token],
     ) -> Read<'a, Statement>
-        requires reads { ReadsNested E.Fn S.Fn self.now }
-        ensures gives { Gives (λ x. (x.0, x.1.now)) result (spec.do_statement self.now.end (deeper self.now.end self.now.room) around place tokens.now) }
-        ensures no_longer { IfOk result (λ x. length x.1.now ≤ length tokens.now) }
+        requires { ReadsNested E.Fn S.Fn self.now }
+        ensures { Reads (spec.do_statement self.now.end (nested self.now) around place tokens.now) result }
     {
         let (body, rest) = self.statement(in_loop(around), tokens)?;
         let rest = expect_while(self.end, rest)?;
         let (condition, rest) = self.in_parentheses(rest)?;
         Ok((
-            do_node(self.alloc, place, body, condition)?,
+            Statement::do_while(self.alloc, place, body, condition)?,
             semicolon_if(rest),
         ))
     }
@@ -243,13 +225,15 @@ impl<
         place: Place,
         tokens: &'a [Token],
     ) -> Read<'a, Statement>
-        requires reads { ReadsNested E.Fn S.Fn self.now }
-        ensures gives { Gives (λ x. (x.0, x.1.now)) result (spec.while_statement self.now.end (deeper self.now.end self.now.room) around place tokens.now) }
-        ensures no_longer { IfOk result (λ x. length x.1.now ≤ length tokens.now) }
+        requires { ReadsNested E.Fn S.Fn self.now }
+        ensures { Reads (spec.while_statement self.now.end (nested self.now) around place tokens.now) result }
     {
         let (condition, rest) = self.in_parentheses(tokens)?;
         let (body, rest) = self.statement(in_loop(around), rest)?;
-        Ok((while_node(self.alloc, place, condition, body)?, rest))
+        Ok((
+            Statement::while_loop(self.alloc, place, condition, body)?,
+            rest,
+        ))
     }
 
     /// An expression of a `for` header or none, and the sign that closes it.
@@ -259,9 +243,8 @@ impl<
         close: Sign,
         tokens: &'a [Token],
     ) -> Read<'a, Option<Expression>>
-        requires reads { ReadsNested E.Fn S.Fn self.now }
-        ensures gives { Gives (λ x. (x.0, x.1.now)) result (spec.optional_expression self.now.end (deeper self.now.end self.now.room) close tokens.now) }
-        ensures no_longer { IfOk result (λ x. length x.1.now ≤ length tokens.now) }
+        requires { ReadsNested E.Fn S.Fn self.now }
+        ensures { Reads (spec.optional_expression self.now.end (nested self.now) close tokens.now) result }
     {
         if is_sign(close, next_sign(tokens)) {
             return Ok((None, rest_of(tokens)));
@@ -280,16 +263,15 @@ impl<
         start: Option<ForStart>,
         tokens: &'a [Token],
     ) -> Read<'a, Statement>
-        requires reads { ReadsNested E.Fn S.Fn self.now }
-        ensures gives { Gives (λ x. (x.0, x.1.now)) result (spec.for_from self.now.end (deeper self.now.end self.now.room) around place (start_or_none start) tokens.now) }
-        ensures no_longer { IfOk result (λ x. length x.1.now ≤ length tokens.now) }
+        requires { ReadsNested E.Fn S.Fn self.now }
+        ensures { Reads (spec.for_from self.now.end (nested self.now) around place (start_or_none start) tokens.now) result }
     {
         let rest = expect(self.end, Sign::Semicolon, tokens)?;
         let (condition, rest) = self.optional_expression(Sign::Semicolon, rest)?;
         let (step, rest) = self.optional_expression(Sign::RightParenthesis, rest)?;
         let (body, rest) = self.statement(in_loop(around), rest)?;
         Ok((
-            for_node(self.alloc, place, start, condition, step, body)?,
+            Statement::for_loop(self.alloc, place, start, condition, step, body)?,
             rest,
         ))
     }
@@ -303,14 +285,16 @@ impl<
         target: ForTarget,
         tokens: &'a [Token],
     ) -> Read<'a, Statement>
-        requires reads { ReadsNested E.Fn S.Fn self.now }
-        ensures gives { Gives (λ x. (x.0, x.1.now)) result (spec.for_in_from self.now.end (deeper self.now.end self.now.room) around place (target_of target) tokens.now) }
-        ensures no_longer { IfOk result (λ x. length x.1.now ≤ length tokens.now) }
+        requires { ReadsNested E.Fn S.Fn self.now }
+        ensures { Reads (spec.for_in_from self.now.end (nested self.now) around place (target_of target) tokens.now) result }
     {
         let (object, rest) = self.expression(Form::NoIn, tokens)?;
         let rest = expect(self.end, Sign::RightParenthesis, rest)?;
         let (body, rest) = self.statement(in_loop(around), rest)?;
-        Ok((for_in_node(self.alloc, place, target, object, body)?, rest))
+        Ok((
+            Statement::for_in(self.alloc, place, target, object, body)?,
+            rest,
+        ))
     }
 
     /// A `for` whose header begins with `var`, behind that word.
@@ -322,9 +306,8 @@ impl<
         var_place: Place,
         tokens: &'a [Token],
     ) -> Read<'a, Statement>
-        requires reads { ReadsNested E.Fn S.Fn self.now }
-        ensures gives { Gives (λ x. (x.0, x.1.now)) result (spec.for_var self.now.end (deeper self.now.end self.now.room) around place var_place tokens.now) }
-        ensures no_longer { IfOk result (λ x. length x.1.now ≤ length tokens.now) }
+        requires { ReadsNested E.Fn S.Fn self.now }
+        ensures { Reads (spec.for_var self.now.end (nested self.now) around place var_place tokens.now) result }
     {
         let (names, rest) = self.declared(Form::NoIn, tokens)?;
         match before_in(next_keyword(rest), names) {
@@ -347,9 +330,8 @@ impl<
         place: Place,
         tokens: &'a [Token],
     ) -> Read<'a, Statement>
-        requires reads { ReadsNested E.Fn S.Fn self.now }
-        ensures gives { Gives (λ x. (x.0, x.1.now)) result (spec.for_value self.now.end (deeper self.now.end self.now.room) around place tokens.now) }
-        ensures no_longer { IfOk result (λ x. length x.1.now ≤ length tokens.now) }
+        requires { ReadsNested E.Fn S.Fn self.now }
+        ensures { Reads (spec.for_value self.now.end (nested self.now) around place tokens.now) result }
     {
         let (value, rest) = self.expression(Form::NoIn, tokens)?;
         let Some(Keyword::In) = next_keyword(rest) else {
@@ -365,9 +347,8 @@ impl<
 
     /// A `for` whose header begins with `var` or an expression.
     fn for_word<'a>(&self, around: Around, place: Place, tokens: &'a [Token]) -> Read<'a, Statement>
-        requires reads { ReadsNested E.Fn S.Fn self.now }
-        ensures gives { Gives (λ x. (x.0, x.1.now)) result (spec.for_word self.now.end (deeper self.now.end self.now.room) around place (next_keyword tokens.now) tokens.now) }
-        ensures no_longer { IfOk result (λ x. length x.1.now ≤ length tokens.now) }
+        requires { ReadsNested E.Fn S.Fn self.now }
+        ensures { Reads (spec.for_word self.now.end (nested self.now) around place (next_keyword tokens.now) tokens.now) result }
     {
         match next_keyword(tokens) {
             Some(Keyword::Var) => {
@@ -386,9 +367,8 @@ impl<
         place: Place,
         tokens: &'a [Token],
     ) -> Read<'a, Statement>
-        requires reads { ReadsNested E.Fn S.Fn self.now }
-        ensures gives { Gives (λ x. (x.0, x.1.now)) result (spec.for_statement self.now.end (deeper self.now.end self.now.room) around place tokens.now) }
-        ensures no_longer { IfOk result (λ x. length x.1.now ≤ length tokens.now) }
+        requires { ReadsNested E.Fn S.Fn self.now }
+        ensures { Reads (spec.for_statement self.now.end (nested self.now) around place tokens.now) result }
     {
         let rest = expect(self.end, Sign::LeftParenthesis, tokens)?;
         match next_sign(rest) {
@@ -405,35 +385,36 @@ impl<
         place: Place,
         tokens: &'a [Token],
     ) -> Read<'a, Statement>
-        requires reads { ReadsNested E.Fn S.Fn self.now }
-        ensures gives { Gives (λ x. (x.0, x.1.now)) result (spec.return_statement self.now.end (deeper self.now.end self.now.room) around place tokens.now) }
-        ensures no_longer { IfOk result (λ x. length x.1.now ≤ length tokens.now) }
+        requires { ReadsNested E.Fn S.Fn self.now }
+        ensures { Reads (spec.return_statement self.now.end (nested self.now) around place tokens.now) result }
     {
         if !around.in_function {
             return Err(ReadAnswer::Refused(ReadKind::Unexpected, place));
         }
         if ends(tokens) {
-            let statement = return_node(self.alloc, place, None)?;
+            let statement = Statement::return_value(self.alloc, place, None)?;
             return alone(self.end, statement, tokens);
         }
         let (value, rest) = self.expression(Form::Plain, tokens)?;
         let rest = read_semicolon(self.end, rest)?;
-        Ok((return_node(self.alloc, place, Some(value))?, rest))
+        Ok((
+            Statement::return_value(self.alloc, place, Some(value))?,
+            rest,
+        ))
     }
 
     /// `throw` behind its word.
     #[tactic(auto, unfolding(js_grammar::specs::Statements::throw_statement))]
     fn throw_statement<'a>(&self, place: Place, tokens: &'a [Token]) -> Read<'a, Statement>
-        requires reads { ReadsNested E.Fn S.Fn self.now }
-        ensures gives { Gives (λ x. (x.0, x.1.now)) result (spec.throw_statement self.now.end (deeper self.now.end self.now.room) place tokens.now) }
-        ensures no_longer { IfOk result (λ x. length x.1.now ≤ length tokens.now) }
+        requires { ReadsNested E.Fn S.Fn self.now }
+        ensures { Reads (spec.throw_statement self.now.end (nested self.now) place tokens.now) result }
     {
         if begins_line(tokens) {
             return Err(refused(self.end, ReadKind::Unexpected, tokens));
         }
         let (value, rest) = self.expression(Form::Plain, tokens)?;
         let rest = read_semicolon(self.end, rest)?;
-        Ok((throw_node(self.alloc, place, value)?, rest))
+        Ok((Statement::throw(self.alloc, place, value)?, rest))
     }
 
     /// A clause of a `switch` from its colon on.
@@ -444,9 +425,8 @@ impl<
         test: Option<Expression>,
         tokens: &'a [Token],
     ) -> Read<'a, Clause>
-        requires reads { ReadsNested E.Fn S.Fn self.now }
-        ensures gives { Gives (λ x. (x.0, x.1.now)) result (spec.clause_from self.now.end (deeper self.now.end self.now.room) around test tokens.now) }
-        ensures shorter { IfOk result (λ x. length x.1.now < length tokens.now) }
+        requires { ReadsNested E.Fn S.Fn self.now }
+        ensures { Reads (spec.clause_from self.now.end (nested self.now) around test tokens.now) result }
     {
         let rest = expect(self.end, Sign::Colon, tokens)?;
         let (body, rest) = self.statements(around, rest)?;
@@ -456,9 +436,8 @@ impl<
     /// A clause with a test, where one begins here.
     #[tactic(auto, unfolding(js_grammar::specs::Statements::a_case))]
     fn a_case<'a>(&self, around: Around, tokens: &'a [Token]) -> Read<'a, Turn<Clause>>
-        requires reads { ReadsNested E.Fn S.Fn self.now }
-        ensures gives { Gives (λ x. (x.0, x.1.now)) result (spec.a_case self.now.end (deeper self.now.end self.now.room) around tokens.now) }
-        ensures shortens { IfOk result (λ x. Shortens x.0 tokens.now x.1.now) }
+        requires { ReadsNested E.Fn S.Fn self.now }
+        ensures { Reads (spec.a_case self.now.end (nested self.now) around tokens.now) result }
     {
         match next_keyword(tokens) {
             Some(Keyword::Case) => {
@@ -471,9 +450,8 @@ impl<
     }
 
     fn cases<'a>(&self, around: Around, tokens: &'a [Token]) -> Read<'a, ClauseList>
-        requires reads { ReadsNested E.Fn S.Fn self.now }
-        ensures gives { Gives (λ x. (x.0, x.1.now)) result (row (spec.a_case self.now.end (deeper self.now.end self.now.room) around) tokens.now) }
-        ensures no_longer { IfOk result (λ x. length x.1.now ≤ length tokens.now) }
+        requires { ReadsNested E.Fn S.Fn self.now }
+        ensures { Reads (row (spec.a_case self.now.end (nested self.now) around) tokens.now) result }
     {
         row(self.alloc, tokens, |rest| self.a_case(around, rest))
     }
@@ -481,9 +459,8 @@ impl<
     /// The clauses of a `switch`, at most one of them `default`.
     #[tactic(auto, unfolding(js_grammar::specs::Statements::clauses))]
     fn clauses<'a>(&self, around: Around, tokens: &'a [Token]) -> Read<'a, ClauseList>
-        requires reads { ReadsNested E.Fn S.Fn self.now }
-        ensures gives { Gives (λ x. (x.0, x.1.now)) result (spec.clauses self.now.end (deeper self.now.end self.now.room) around tokens.now) }
-        ensures no_longer { IfOk result (λ x. length x.1.now ≤ length tokens.now) }
+        requires { ReadsNested E.Fn S.Fn self.now }
+        ensures { Reads (spec.clauses self.now.end (nested self.now) around tokens.now) result }
     {
         let (cases, rest) = self.cases(around, tokens)?;
         match next_keyword(rest) {
@@ -504,23 +481,21 @@ impl<
         place: Place,
         tokens: &'a [Token],
     ) -> Read<'a, Statement>
-        requires reads { ReadsNested E.Fn S.Fn self.now }
-        ensures gives { Gives (λ x. (x.0, x.1.now)) result (spec.switch_statement self.now.end (deeper self.now.end self.now.room) around place tokens.now) }
-        ensures no_longer { IfOk result (λ x. length x.1.now ≤ length tokens.now) }
+        requires { ReadsNested E.Fn S.Fn self.now }
+        ensures { Reads (spec.switch_statement self.now.end (nested self.now) around place tokens.now) result }
     {
         let (value, rest) = self.in_parentheses(tokens)?;
         let rest = expect(self.end, Sign::LeftBrace, rest)?;
         let (clauses, rest) = self.clauses(in_switch(around), rest)?;
         let rest = expect(self.end, Sign::RightBrace, rest)?;
-        Ok((switch_node(self.alloc, place, value, clauses)?, rest))
+        Ok((Statement::switch(self.alloc, place, value, clauses)?, rest))
     }
 
     /// The handler of a `try`, where it has one.
     #[tactic(auto, unfolding(js_grammar::specs::Statements::catch_part))]
     fn catch_part<'a>(&self, around: Around, tokens: &'a [Token]) -> Read<'a, Option<Catch>>
-        requires reads { ReadsNested E.Fn S.Fn self.now }
-        ensures gives { Gives (λ x. (x.0, x.1.now)) result (spec.catch_part self.now.end (deeper self.now.end self.now.room) around tokens.now) }
-        ensures no_longer { IfOk result (λ x. length x.1.now ≤ length tokens.now) }
+        requires { ReadsNested E.Fn S.Fn self.now }
+        ensures { Reads (spec.catch_part self.now.end (nested self.now) around tokens.now) result }
     {
         match next_keyword(tokens) {
             Some(Keyword::Catch) => {
@@ -537,9 +512,8 @@ impl<
     /// The last block of a `try`, where it has one.
     #[tactic(auto, unfolding(js_grammar::specs::Statements::finally_part))]
     fn finally_part<'a>(&self, around: Around, tokens: &'a [Token]) -> Read<'a, Option<Statement>>
-        requires reads { ReadsNested E.Fn S.Fn self.now }
-        ensures gives { Gives (λ x. (x.0, x.1.now)) result (spec.finally_part self.now.end (deeper self.now.end self.now.room) around tokens.now) }
-        ensures no_longer { IfOk result (λ x. length x.1.now ≤ length tokens.now) }
+        requires { ReadsNested E.Fn S.Fn self.now }
+        ensures { Reads (spec.finally_part self.now.end (nested self.now) around tokens.now) result }
     {
         match next_keyword(tokens) {
             Some(Keyword::Finally) => {
@@ -558,9 +532,8 @@ impl<
         place: Place,
         tokens: &'a [Token],
     ) -> Read<'a, Statement>
-        requires reads { ReadsNested E.Fn S.Fn self.now }
-        ensures gives { Gives (λ x. (x.0, x.1.now)) result (spec.try_statement self.now.end (deeper self.now.end self.now.room) around place tokens.now) }
-        ensures no_longer { IfOk result (λ x. length x.1.now ≤ length tokens.now) }
+        requires { ReadsNested E.Fn S.Fn self.now }
+        ensures { Reads (spec.try_statement self.now.end (nested self.now) around place tokens.now) result }
     {
         let (body, rest) = self.block(inside(around), tokens)?;
         let (catch, rest) = self.catch_part(around, rest)?;
@@ -568,7 +541,10 @@ impl<
         if !has_part(&catch, &last) {
             return Err(refused(self.end, ReadKind::Unexpected, rest));
         }
-        Ok((try_node(self.alloc, place, body, catch, last)?, rest))
+        Ok((
+            Statement::try_block(self.alloc, place, body, catch, last)?,
+            rest,
+        ))
     }
 
     /// A function declaration behind its word.
@@ -579,16 +555,18 @@ impl<
         place: Place,
         tokens: &'a [Token],
     ) -> Read<'a, Statement>
-        requires reads { ReadsNested E.Fn S.Fn self.now }
-        ensures gives { Gives (λ x. (x.0, x.1.now)) result (spec.function_statement self.now.end (deeper self.now.end self.now.room) around place tokens.now) }
-        ensures no_longer { IfOk result (λ x. length x.1.now ≤ length tokens.now) }
+        requires { ReadsNested E.Fn S.Fn self.now }
+        ensures { Reads (spec.function_statement self.now.end (nested self.now) around place tokens.now) result }
     {
         let (name, rest) = read_name(self.alloc, self.end, tokens)?;
         if !around.direct {
             return Err(ReadAnswer::Refused(ReadKind::Unsupported, place));
         }
         let (function, rest) = self.function_from(None, rest)?;
-        Ok((declare_node(self.alloc, place, name, function)?, rest))
+        Ok((
+            Statement::function(self.alloc, place, name, function)?,
+            rest,
+        ))
     }
 
     /// A statement that begins with a word, at that word.
@@ -599,10 +577,8 @@ impl<
         place: Place,
         tokens: &'a [Token],
     ) -> Read<'a, Statement>
-        requires reads { ReadsNested E.Fn S.Fn self.now }
-        requires some { 0 < length tokens.now }
-        ensures gives { Gives (λ x. (x.0, x.1.now)) result (spec.word_statement self.now.end (deeper self.now.end self.now.room) around keyword place tokens.now) }
-        ensures shorter { IfOk result (λ x. length x.1.now < length tokens.now) }
+        requires { ReadsNested E.Fn S.Fn self.now }
+        ensures { Reads (spec.word_statement self.now.end (nested self.now) around keyword place tokens.now) result }
     {
         let rest = rest_of(tokens);
         match keyword {
@@ -642,9 +618,8 @@ impl<
 
     #[tactic(auto, unfolding(js_grammar::specs::Statements::statement))]
     pub fn statement_in<'a>(&self, around: Around, tokens: &'a [Token]) -> Read<'a, Statement>
-        requires reads { ReadsNested E.Fn S.Fn self.now }
-        ensures gives { Gives (λ x. (x.0, x.1.now)) result (spec.statement self.now.end (deeper self.now.end self.now.room) around tokens.now) }
-        ensures shorter { IfOk result (λ x. length x.1.now < length tokens.now) }
+        requires { ReadsNested E.Fn S.Fn self.now }
+        ensures { Reads (spec.statement self.now.end (nested self.now) around tokens.now) result }
     {
         let [token, rest @ ..] = tokens else {
             return Err(refused(self.end, ReadKind::Unexpected, tokens));

@@ -20,6 +20,7 @@ ghost use Rattle.js_grammar.specs.Printing.{
 ghost use Rattle.js_printer.specs.Written.{written};
 
 use crate::printer::Printer;
+use js_lexer::keyword_spelling;
 use js_tree::{AssignOp, BinaryOp, Keyword, Sign, UnaryOp, UpdateOp};
 use utf16_text::{Memory, Text};
 use whole_number::Whole;
@@ -76,49 +77,6 @@ fn sign_spelling(sign: Sign) -> &'static str
         Sign::AmpersandAssign => "&=",
         Sign::BarAssign => "|=",
         Sign::CaretAssign => "^=",
-    }
-}
-
-fn keyword_spelling(keyword: Keyword) -> &'static str
-    ensures { result.now ≡ words.keyword_spelling keyword }
-{
-    match keyword {
-        Keyword::Break => "break",
-        Keyword::Case => "case",
-        Keyword::Catch => "catch",
-        Keyword::Class => "class",
-        Keyword::Const => "const",
-        Keyword::Continue => "continue",
-        Keyword::Debugger => "debugger",
-        Keyword::Default => "default",
-        Keyword::Delete => "delete",
-        Keyword::Do => "do",
-        Keyword::Else => "else",
-        Keyword::Enum => "enum",
-        Keyword::Export => "export",
-        Keyword::Extends => "extends",
-        Keyword::False => "false",
-        Keyword::Finally => "finally",
-        Keyword::For => "for",
-        Keyword::Function => "function",
-        Keyword::If => "if",
-        Keyword::Import => "import",
-        Keyword::In => "in",
-        Keyword::InstanceOf => "instanceof",
-        Keyword::New => "new",
-        Keyword::Null => "null",
-        Keyword::Return => "return",
-        Keyword::Super => "super",
-        Keyword::Switch => "switch",
-        Keyword::This => "this",
-        Keyword::Throw => "throw",
-        Keyword::True => "true",
-        Keyword::Try => "try",
-        Keyword::TypeOf => "typeof",
-        Keyword::Var => "var",
-        Keyword::Void => "void",
-        Keyword::While => "while",
-        Keyword::With => "with",
     }
 }
 
