@@ -1,0 +1,5 @@
+pub mod Logs
+pub mod Owing
+pub mod Waiting
+pub mod Turns
+pub mod Kept

@@ -1,0 +1,89 @@
+-- From moves to turns, states of links and numbers, one after another.
+use Rattle.std.proofs.Common.{◌≡◌, ℕ, ◌+◌, ◌<◌, List, [], ◌∷◌, ◌++◌, map, take, length, get_or, Option, Some, None, refl, sym, ◌∙◌, ap, subst, arith, append_assoc}
+use Rattle.std.proofs.lemmas.List.{append-nil, map-append, map_more, take-map}
+use Rattle.pac_ports.specs.Dice.{DiceTold}
+use Rattle.pac_ports.specs.Link.{HasGot, LinkState, LinkTold, with_moves as adding, with_open}
+use Rattle.pac_ports.specs.declared.link.Move.{Move}
+use Rattle.pac_ports.specs.declared.link.Move.TheVariants as move
+use Rattle.pac_ports.specs.declared.link.Server.{Server}
+use Rattle.poll_log.specs.Turns.{Turns, Begin, Then, Event, Given, Tick, with_moves, with_sent, turns_of}
+use Rattle.poll_log.specs.Questions.{drawn, firsts, asked_in, new_among, octets_of}
+use Rattle.poll_log.specs.declared.question.Question.{Question}
+use Rattle.poll_log.proofs.Grows.{with_moves-append}
+use Rattle.poll_log.proofs.TurnLaws.{firsts-then}
+use Rattle.poll_loop.specs.Events.{event_got, move_of}
+use Rattle.pac_ports.specs.declared.link.Got.{Got}
+use Rattle.pac_ports.specs.declared.link.Got.TheVariants as got
+use Rattle.poll_loop.specs.Numbers.{GaveAll, newly_drawn}
+use Rattle.poll_loop.specs.Talks.{linked}
+
+sent_then : (h : Turns) (e : Event) (sent more : List (List ℕ)) → with_moves (Then h e sent) (map move.Sent more) ≡ Then h e (sent ++ more)
+unfolding with_moves
+sent_then h e sent [] = ap (Then h e) (sym (append-nil sent))
+sent_then h e sent (octets ∷ more) = sent_then h e (sent ++ octets ∷ []) more ∙ ap (Then h e) (append_assoc sent (octets ∷ []) more)
+
+sent_begin : (sent more : List (List ℕ)) → with_moves (Begin sent) (map move.Sent more) ≡ Begin (sent ++ more)
+unfolding with_moves
+sent_begin sent [] = ap Begin (sym (append-nil sent))
+sent_begin sent (octets ∷ more) = sent_begin (sent ++ octets ∷ []) more ∙ ap Begin (append_assoc sent (octets ∷ []) more)
+
+pub turns_begin : (sent : List (List ℕ)) → turns_of (map move.Sent sent) ≡ Begin sent
+turns_begin sent = sent_begin [] sent
+
+event_then : (h : Turns) (e : Event) (sent : List (List ℕ)) → with_moves h (move_of e ∷ map move.Sent sent) ≡ Then h e sent
+unfolding with_moves
+event_then h (Given d) sent = sent_then h (Given d) [] sent
+event_then h Tick sent = sent_then h Tick [] sent
+
+pub turns_more : (ms : List Move) (e : Event) (sent : List (List ℕ)) → turns_of (ms ++ move_of e ∷ map move.Sent sent) ≡ Then (turns_of ms) e sent
+turns_more ms e sent = with_moves-append (Begin []) ms (move_of e ∷ map move.Sent sent) ∙ event_then (with_moves (Begin []) ms) e sent
+
+pub sent_none : (h : Turns) → h ≡ with_sent h []
+sent_none (Begin sent) = ap Begin (sym (append-nil sent))
+sent_none (Then h e sent) = ap (Then h e) (sym (append-nil sent))
+
+-- moves one after another
+pub added_more : (xs ys : List Move) (s : LinkState) → adding ys (adding xs s) ≡ adding (xs ++ ys) s
+added_more xs ys s = go s.told
+  where
+    go : (t : Option LinkTold) → (let x : LinkState = record s { told = t } in adding ys (adding xs x) ≡ adding (xs ++ ys) x)
+    go None = refl
+    go (Some t) = ap (λ (l : List Move). let y : LinkState = record s { told = Some (record t { log = l }) } in y) (append_assoc t.log xs ys)
+
+pub added_none : (s : LinkState) → adding [] s ≡ s
+added_none s = go s.told
+  where
+    go : (t : Option LinkTold) → (let x : LinkState = record s { told = t } in adding [] x ≡ x)
+    go None = refl
+    go (Some t) = ap (λ (l : List Move). let y : LinkState = record s { told = Some (record t { log = l }) } in y) (append-nil t.log)
+
+pub linked_by : (server : Server) (ms : List Move) (s : LinkState) → 0 < length ms → adding ms (with_open server s) ≡ linked server ms s
+linked_by server [] s low = absurd (omega arith)
+linked_by server (m ∷ ms) s low = refl
+
+pub gave-append : (xs ys : List ℕ) (a b c : Option DiceTold) → GaveAll a xs b → GaveAll b ys c → GaveAll a (xs ++ ys) c
+gave-append [] ys a b c f g = subst (λ x. GaveAll x ys c) f g
+gave-append (x ∷ xs) ys a b c f g = (f.0, f.1, gave-append xs ys f.0 b c f.2 g)
+
+pub drawn-then : (h : Turns) (e : Event) (sent : List (List ℕ)) → drawn (Then h e sent) ≡ drawn h ++ newly_drawn h sent
+drawn-then h e sent = ap (map (λ q. q.id)) (firsts-then h e sent) ∙ map-append (λ q. q.id) (firsts h) (new_among (firsts h) (asked_in sent))
+
+pub nothing_drawn : (h : Turns) (e : Event) → drawn (Then h e []) ≡ drawn h
+unfolding new_among
+nothing_drawn h e = drawn-then h e [] ∙ append-nil (drawn h)
+
+-- one question more is sent
+pub sent_more : (qs : List Question) (i : ℕ) (d : Question) (s : LinkState) → i < length qs → adding (move.Sent (octets_of (get_or qs i d)) ∷ []) (adding (map move.Sent (take i (map octets_of qs))) s) ≡ adding (map move.Sent (take (i + 1) (map octets_of qs))) s
+sent_more qs i d s low = added_more (map move.Sent (take i (map octets_of qs))) (move.Sent (octets_of (get_or qs i d)) ∷ []) s ∙ ap (λ l. adding l s) one
+  where
+    one : map move.Sent (take i (map octets_of qs)) ++ move.Sent (octets_of (get_or qs i d)) ∷ [] ≡ map move.Sent (take (i + 1) (map octets_of qs))
+    one =
+        ap (λ l. map move.Sent l ++ move.Sent (octets_of (get_or qs i d)) ∷ []) (take-map octets_of i qs)
+        ∙ sym (map-append move.Sent (map octets_of (take i qs)) (octets_of (get_or qs i d) ∷ []))
+        ∙ ap (map move.Sent) (sym (map_more octets_of qs i d low))
+        ∙ ap (map move.Sent) (sym (take-map octets_of (i + 1) qs))
+
+-- what was received is a move of the link
+pub got_move : (old new : LinkState) (buffer : List ℕ) (g : Got) (e : Event) → HasGot old buffer g new → e ≡ event_got buffer g → new ≡ adding (move_of e ∷ []) old
+got_move old new buffer (got.Datagram n) e h k = h.1 ∙ ap (λ x. adding (move_of x ∷ []) old) (sym k)
+got_move old new buffer got.Tick e h k = h ∙ ap (λ x. adding (move_of x ∷ []) old) (sym k)

@@ -1,0 +1,52 @@
+-- What a talk does to the outside: its log is polled, or cut short at a fault or for want of memory.
+use Rattle.std.specs.Prelude.{◌≡◌, ℕ, ◌+◌, ◌≤◌, true, false, List, [], ◌∷◌, ◌++◌}
+use Rattle.pac_ports.specs.Link.{LinkState, LinkFails, has_move, with_moves, with_open}
+use Rattle.pac_ports.specs.declared.link.Move.{Move}
+use Rattle.pac_ports.specs.declared.link.Server.{Server}
+use Rattle.poll_log.specs.Turns.{turns_of, with_sent}
+use Rattle.poll_log.specs.Questions.{drawn}
+use Rattle.poll_log.specs.Jobs.{IsCut, IsPolled, some_wait}
+use Rattle.pac_plan.specs.Plan.{End, Outside, whole, faulted, unfinished}
+use Rattle.poll_loop.specs.Task.{IsSound, Talk}
+use Rattle.poll_loop.specs.Numbers.{GaveAll}
+
+-- The link after these moves: opened once, to the server, before the first. Without moves it is as it was.
+abbrev pub linked : Server → List Move → LinkState → LinkState
+linked server [] link = link
+linked server (m ∷ moves) link = with_moves (m ∷ moves) (with_open server link)
+
+-- Nobody waits any more.
+pub record EndsWhole (talk : Talk) (old : Outside) (log : List Move) (new : Outside) : Type 0 where
+  pub polled : IsPolled talk.task.terms talk.task.jobs (turns_of log)
+  pub link : new.link ≡ linked talk.server log old.link
+  -- the j-th name that was sent first carries the j-th number of the dice
+  pub drew : GaveAll old.dice (drawn (turns_of log)) new.dice
+  pub ran : new.runs ≡ old.runs + talk.task.runs (turns_of log)
+
+-- The link failed while some job waited.
+pub record EndsByFault (talk : Talk) (old : Outside) (log : List Move) (new : Outside) : Type 0 where
+  pub cut : IsCut talk.task.terms talk.task.jobs (turns_of log)
+  pub waits : some_wait talk.task.terms talk.task.jobs (turns_of log) ≡ true
+  pub link : LinkFails (with_moves log (with_open talk.server old.link)) new.link
+  pub unsure : has_move new.link ≡ false
+  pub drew : GaveAll old.dice (drawn (with_sent (turns_of log) cut.unsent)) new.dice
+  pub ran : new.runs ≡ old.runs + talk.task.runs (turns_of log)
+
+-- Memory ran out.
+pub record EndsForMemory (talk : Talk) (old : Outside) (log : List Move) (new : Outside) : Type 0 where
+  pub cut : IsSound talk.task → IsCut talk.task.terms talk.task.jobs (turns_of log)
+  pub link : new.link ≡ linked talk.server log old.link
+  -- numbers may have been drawn for names that were not sent
+  pub drew : (more : List ℕ) × GaveAll old.dice (drawn (turns_of log) ++ more) new.dice
+  pub ran : new.runs ≤ old.runs + talk.task.runs (turns_of log)
+
+abbrev pub Ends : Talk → Outside → End → List Move → Outside → Type 0
+Ends talk old whole log new = EndsWhole talk old log new
+Ends talk old faulted log new = EndsByFault talk old log new
+Ends talk old unfinished log new = EndsForMemory talk old log new
+
+-- files and clock are as they were
+pub record Talked (talk : Talk) (old : Outside) (end : End) (log : List Move) (new : Outside) : Type 0 where
+  pub files : new.files ≡ old.files
+  pub clock : new.clock ≡ old.clock
+  pub ends : Ends talk old end log new

@@ -1,0 +1,109 @@
+// The loop.
+ghost use Rattle.std.specs.Prelude.{◌≡◌, ℕ, ◌+◌, ◌<◌, ◌≤◌, length, map, true};
+ghost use Rattle.pac_plan.specs.Plan.{Outside};
+ghost use Rattle.poll_log.specs.Turns.{turns_of};
+ghost use Rattle.poll_log.specs.Questions.{octets_of};
+ghost use Rattle.poll_log.specs.Told.{limit};
+ghost use Rattle.poll_log.specs.Jobs.{some_wait};
+ghost use Rattle.poll_loop.specs.Task.{Talk};
+ghost use Rattle.poll_loop.specs.Sending.{HasBegun};
+ghost use Rattle.poll_loop.specs.Steps.{Began};
+ghost use Rattle.poll_loop.specs.Turning.{Polled, Reached, Turned};
+
+use crate::Poller;
+use crate::event::event_in;
+use crate::sending::send_all;
+use pac_ports::{Dice, Failed, Link, Server};
+use poll_log::{FLOOD, NAMES, Question, Terms};
+use std::alloc::Global;
+use std::sync::ledger::Ledger;
+use step_counter::Steps;
+
+/// Whom to ask, and how often.
+#[derive(Clone, Copy, Debug, PartialEq, Eq)]
+pub struct Asking {
+    pub server: Server,
+    pub terms: Terms,
+}
+
+/// Why polling ended early.
+#[derive(Clone, Copy, Debug, PartialEq, Eq)]
+pub enum Stop {
+    /// The link failed.
+    Link,
+    /// Memory ran out.
+    Memory,
+}
+
+/// Sends these first questions of a poller that has begun, and whatever it wants to be sent after each event, until no
+/// job waits. Where there is nothing to send the link is not touched.
+pub fn poll<P: Poller, N: Link, D: Dice, L: Ledger>(
+    alloc: Global,
+    poller: &mut P,
+    first: &[Question],
+    asking: Asking,
+    link: &mut N,
+    dice: &mut D,
+    runs: &mut Steps<L>,
+) -> Result<(), Stop>
+    requires lasts { limit asking.terms ≤ 8000 }
+    ensures { (talk : Talk) (old : Outside) → talk.server ≡ asking.server → talk.task.terms ≡ asking.terms →
+        old.link ≡ N.state link.old →
+        Began (P.stands poller.old talk.task) talk.task (map octets_of first.now) old (D.told dice.old) runs.old →
+        Polled talk (P.stands poller.new talk.task) old result
+        (record old { link = N.state link.new; dice = D.told dice.new; runs = runs.new }) }
+{
+    if first.is_empty() {
+        return Ok(());
+    }
+    let Ok(()) = open(link, asking.server, first) else {
+        return Err(Stop::Link);
+    };
+    let Terms { wait, tries } = asking.terms;
+    for _turn in 0..FLOOD * NAMES * (wait * tries) as u64 {
+        if poller.ended() {
+            return Ok(());
+        }
+        match turn(alloc, poller, link, dice, runs) {
+            Ok(()) => {}
+            Err(stop) => return Err(stop),
+        }
+    }
+    Ok(())
+}
+
+// One turn: an event, and what is sent after it.
+fn turn<P: Poller, N: Link, D: Dice, L: Ledger>(
+    alloc: Global,
+    poller: &mut P,
+    link: &mut N,
+    dice: &mut D,
+    runs: &mut Steps<L>,
+) -> Result<(), Stop>
+    ensures { (talk : Talk) (old : Outside) (count : ℕ) →
+        (r : Reached talk (P.stands poller.old talk.task) old (N.state link.old) (D.told dice.old) runs.old count) →
+        some_wait talk.task.terms talk.task.jobs (turns_of r.moves) ≡ true →
+        Turned talk (P.stands poller.new talk.task) old result
+        (N.state link.new) (D.told dice.new) runs.new (count + 1) }
+{
+    let mut buffer = [0; 512];
+    let Ok(got) = link.receive(&mut buffer) else {
+        return Err(Stop::Link);
+    };
+    let Ok(sent) = poller.step(alloc, event_in(&buffer, got), dice, runs) else {
+        return Err(Stop::Memory);
+    };
+    let Ok(()) = send_all(link, &sent) else {
+        return Err(Stop::Link);
+    };
+    Ok(())
+}
+
+// Opens the link to the server, and sends the first questions.
+fn open<N: Link>(link: &mut N, server: Server, first: &[Question]) -> Result<(), Failed>
+    requires { 0 < length first.now }
+    ensures { HasBegun (N.state link.old) server (map octets_of first.now) result (N.state link.new) }
+{
+    link.open(server)?;
+    send_all(link, first)
+}

@@ -1,0 +1,41 @@
+// What polls.
+ghost use Rattle.std.specs.Prelude.{◌≡◌, not, map, IfOk, OnErr};
+ghost use Rattle.poll_log.specs.Turns.{Turns};
+ghost use Rattle.poll_log.specs.Questions.{octets_of};
+ghost use Rattle.poll_log.specs.Jobs.{some_wait};
+ghost use Rattle.poll_loop.specs.Task.{Task};
+ghost use Rattle.poll_loop.specs.Events.{event_of};
+ghost use Rattle.poll_loop.specs.Steps.{Stepped, StepFails};
+
+use crate::Event;
+use pac_ports::Dice;
+use poll_log::Question;
+use std::alloc::Global;
+use std::sync::ledger::Ledger;
+use step_counter::Steps;
+use utf16_text::Memory;
+
+/// Jobs that wait for names, driven by what comes over a link.
+pub trait Poller {
+    /// It stands for a log of this task.
+    ghost stands: { Self → Task → Turns → Type 0 };
+
+    /// Whether no job waits.
+    fn ended(&self) -> bool
+        ensures { (task : Task) (turns : Turns) → stands self.now task turns →
+            result ≡ not (some_wait task.terms task.jobs turns) };
+
+    /// Treats one event whole, and gives what is to be sent after it. From then on it stands for the longer log.
+    fn step<D: Dice, L: Ledger>(
+        &mut self,
+        alloc: Global,
+        event: Event<'_>,
+        dice: &mut D,
+        runs: &mut Steps<L>,
+    ) -> Result<Vec<Question>, Memory>
+        ensures ok { IfOk result (λ sent. (task : Task) (turns : Turns) → stands self.old task turns →
+            Stepped (stands self.new task) task turns (event_of event.entry) (map octets_of sent.items)
+            (D.told dice.old) (D.told dice.new) runs.old runs.new) }
+        ensures memory { OnErr result ((task : Task) (turns : Turns) → stands self.old task turns →
+            StepFails task turns (event_of event.entry) (D.told dice.old) (D.told dice.new) runs.old runs.new) };
+}
