@@ -1,0 +1,273 @@
+-- What each open part makes of the end that it waits for, by the rules of evaluation (ECMA-262 5.1, sections 11 to 13):
+-- what the rule of its kind does after the part within.
+use Rattle.std.specs.Prelude.{codes, ℕ, suc, ◌+◌, ◌-◌, List, [], ◌∷◌, ◌++◌, true, false, not, if◌then◌else◌, Some, pos, neg_ℤ, ◌-ℤ◌}
+use Rattle.js_tree.specs.declared.place.Place.{Place}
+use Rattle.js_tree.specs.declared.operators.BinaryOp.{BinaryOp}
+use Rattle.js_tree.specs.Tree.{Suffixes, FunctionTree, expressions_of, items_of, statements_of}
+use Rattle.js_tree.specs.View.{properties_of, suffixes_of, operands_of, declarations_of, branches_of, clauses_of, optional_box, optional_statement, optional_catch, target_of}
+use Rattle.heap_values.specs.declared.value.Value.{Value}
+use Rattle.heap_values.specs.declared.value.Value.TheVariants as value
+use Rattle.js_convert.specs.Numeric.{numeric_of, truth_of}
+use Rattle.js_convert.specs.Operators.{operator_value, strictly_equal, is_object}
+use Rattle.js_convert.specs.Texts.{text_of}
+use Rattle.run_trees.specs.declared.abrupt.Abrupt.TheVariants as ending
+use Rattle.run_trees.specs.Runs.{ends, pure, abrupt, reading, onward, ◌>>=◌, ◌>>◌, turned, broken_at, returned_to}
+use Rattle.js_evaluation.specs.State.{Does, define, set_base, the_base, global_object, throw}
+use Rattle.js_evaluation.specs.Objects.{Context, get, test_base, delete_property, delete_bound, read_or_undefined, write_name, has_property}
+use Rattle.js_evaluation.specs.Conversions as convert
+use Rattle.js_evaluation.specs.Natives as native
+use Rattle.js_evaluation.specs.Expressions as expression
+use Rattle.js_evaluation.specs.Statements as statement
+use Rattle.js_evaluation.specs.Evaluation.{evaluation, most_open}
+use Rattle.js_frames.specs.declared.expression_frame.Aim.{Aim}
+use Rattle.js_frames.specs.declared.expression_frame.Aim.TheVariants as aim
+use Rattle.js_frames.specs.declared.expression_frame.ExpressionFrame.{ExpressionFrame}
+use Rattle.js_frames.specs.declared.expression_frame.ExpressionFrame.TheVariants as of_expression
+use Rattle.js_frames.specs.declared.expression_frame.SuffixFrame.{SuffixFrame}
+use Rattle.js_frames.specs.declared.expression_frame.SuffixFrame.TheVariants as of_suffix
+use Rattle.js_frames.specs.declared.statement_frame.StatementFrame.{StatementFrame}
+use Rattle.js_frames.specs.declared.statement_frame.StatementFrame.TheVariants as of_statement
+use Rattle.js_frames.specs.declared.statement_frame.LoopFrame.{LoopFrame}
+use Rattle.js_frames.specs.declared.statement_frame.LoopFrame.TheVariants as of_loop
+use Rattle.js_frames.specs.declared.statement_frame.WhileLoop.{WhileLoop}
+use Rattle.js_frames.specs.declared.statement_frame.ForLoop.{ForLoop}
+use Rattle.js_frames.specs.declared.statement_frame.ForInLoop.{ForInLoop}
+use Rattle.js_frames.specs.declared.frame.EntryFrame.{EntryFrame}
+use Rattle.js_frames.specs.declared.frame.EntryFrame.TheVariants as of_entry
+use Rattle.js_frames.specs.declared.frame.Frame.{Frame}
+use Rattle.js_frames.specs.declared.frame.Frame.TheVariants as frame
+use Rattle.js_frames.specs.declared.frame.Open.{Open}
+use Rattle.js_frames.specs.declared.wanted.Operated.{Operated}
+use Rattle.js_frames.specs.declared.wanted.Operated.TheVariants as operated
+use Rattle.js_frames.specs.declared.wanted.Wanted.{Wanted}
+use Rattle.js_frames.specs.declared.wanted.Wanted.TheVariants as wanted
+use Rattle.js_frames.specs.Parts.{context_of, reference_of, names_of}
+use Rattle.js_frames.specs.Rules as rule
+use Rattle.js_frames.specs.Rules.{Within, AfterValue}
+
+-- functions: those of the script; go: evaluation of the parts within; cx: where the code of the open part runs
+module _ (functions : List FunctionTree) (go : Within) (cx : Context) where
+  -- suffixes, for the value that the last one gives or for what it refers to
+  abbrev pub suffixes_by : Aim → Value → Value → Suffixes → Does Value
+  suffixes_by aim.Value = rule.suffixes_from functions go cx
+  suffixes_by aim.Target = rule.target_suffixes functions go cx
+
+  -- ---- what is done with a primitive value (8.12.8)
+
+  abbrev pub after_operator : Operated → Value → Does Value
+  after_operator (operated.Row rest) v = rule.operands_from functions go cx v (operands_of rest.now)
+  after_operator (operated.Write r place) v = expression.write cx (reference_of r) v place >> pure v
+
+  -- both sides of an operator are primitive values
+  abbrev pub operate : BinaryOp → Value → Value → Place → Operated → Does Value
+  operate o a b place next = convert.operated (rule.call functions go cx) (operator_value o a b) place >>= after_operator next
+
+  abbrev pub with_primitive : Wanted → Value → Does Value
+  with_primitive (wanted.Plus place) v =
+      convert.number_or_fault (rule.call functions go cx) (numeric_of v) place >>= (λ n. pure (value.Number n))
+  with_primitive (wanted.Minus place) v =
+      convert.number_or_fault (rule.call functions go cx) (numeric_of v) place >>= (λ n. pure (value.Number (neg_ℤ n)))
+  with_primitive (wanted.BitNot place) v =
+      convert.bits_or_fault (rule.call functions go cx) (numeric_of v) place >>= (λ n. pure (value.Number (neg_ℤ n -ℤ pos 1)))
+  with_primitive (wanted.Update form op r place) v = do
+    n ← convert.number_or_fault (rule.call functions go cx) (numeric_of v) place
+    m ← convert.stepped (rule.call functions go cx) op n place
+    _written ← expression.write cx (reference_of r) (value.Number m) place
+    pure (rule.given_by functions go cx form (value.Number n) (value.Number m))
+  with_primitive (wanted.Index purpose base place rest) v =
+      get base (text_of v) place >>= (λ w. suffixes_by purpose base w (suffixes_of rest.now))
+  with_primitive (wanted.Key base) v = set_base base >> pure (value.Text (text_of v))
+  with_primitive (wanted.In object place next) v = has_property object (text_of v) place >>= after_operator next
+  with_primitive (wanted.Left op right place next) v =
+      convert.to_primitive (rule.call functions go cx) convert.number_methods right place >>= (λ b. operate op v b place next)
+  with_primitive (wanted.Right op left place next) v = operate op left v place next
+  with_primitive (wanted.Message prototype place) v = native.make_error prototype (Some (text_of v)) place
+  with_primitive (wanted.ErrorName error place) v =
+      get (value.Object error) (codes "message") place >>= (λ m. native.text_or (rule.call functions go cx) [] m place
+      >>= (λ message. native.gives_text (native.joined (text_of v) message) place))
+  with_primitive (wanted.ErrorMessage name place) v = native.gives_text (native.joined name (text_of v)) place
+
+  -- ---- expressions (11)
+
+  abbrev pub after_expression : ExpressionFrame → Value → Does Value
+  after_expression (of_expression.Item array count rest place) v =
+      define array (rule.index_name functions go cx count) v true true place
+      >> rule.items_from functions go cx place array (count + 1) false (items_of rest.now)
+  after_expression (of_expression.Property object name rest place) v =
+      define object name.now v true true place >> rule.properties_from functions go cx place object (properties_of rest.now)
+  after_expression (of_expression.Callee left place) v =
+      rule.arguments_from functions go cx [] (expressions_of left.now) >>= (λ vs. rule.constructed functions go cx v vs place)
+  after_expression (of_expression.NewArgument callee done left place) v =
+      rule.arguments_from functions go cx (done ++ v ∷ []) (expressions_of left.now)
+      >>= (λ vs. rule.constructed functions go cx callee vs place)
+  after_expression (of_expression.UpdateTarget form op target place) key = do
+    base ← the_base
+    old ← expression.read cx (expression.referred target.now key base)
+    n ← convert.to_number (rule.call functions go cx) old place
+    m ← convert.stepped (rule.call functions go cx) op n place
+    _written ← expression.write cx (expression.referred target.now key base) (value.Number m) place
+    pure (rule.given_by functions go cx form (value.Number n) (value.Number m))
+  after_expression (of_expression.DeleteName name place) v = delete_bound name.now.name name.now.bound place
+  after_expression (of_expression.DeleteTarget place) key = the_base >>= (λ base. delete_property base (text_of key) place)
+  after_expression of_expression.DeleteValue v = pure (value.Bool true)
+  after_expression of_expression.Void v = pure value.Undefined
+  after_expression (of_expression.TypeOfName name place) v =
+      read_or_undefined cx name.now place >>= (λ w. reading (λ s. pure (value.Text (convert.type_text s.heap w))))
+  after_expression of_expression.TypeOf v = reading (λ s. pure (value.Text (convert.type_text s.heap v)))
+  after_expression (of_expression.Plus place) v =
+      convert.to_number (rule.call functions go cx) v place >>= (λ n. pure (value.Number n))
+  after_expression (of_expression.Minus place) v =
+      convert.to_number (rule.call functions go cx) v place >>= (λ n. pure (value.Number (neg_ℤ n)))
+  after_expression (of_expression.BitNot place) v =
+      convert.to_bits (rule.call functions go cx) v place >>= (λ n. pure (value.Number (neg_ℤ n -ℤ pos 1)))
+  after_expression of_expression.Not v = pure (value.Bool (not (truth_of v)))
+  after_expression (of_expression.Row rest) v = rule.operands_from functions go cx v (operands_of rest.now)
+  after_expression (of_expression.Operand op left place rest) v =
+      convert.binary (rule.call functions go cx) op left v place
+      >>= (λ w. rule.operands_from functions go cx w (operands_of rest.now))
+  after_expression (of_expression.Conditional held otherwise) v =
+      if truth_of v then rule.visit functions go cx held.now else rule.visit functions go cx otherwise.now
+  after_expression (of_expression.AssignTarget op target e place) key = the_base >>= (λ base.
+      rule.assigned_with functions go cx place (expression.referred target.now key base) (convert.assigned_by op) e.now
+      >>= (λ v. expression.write cx (expression.referred target.now key base) v place >> pure v))
+  after_expression (of_expression.AssignValue r place) v = expression.write cx (reference_of r) v place >> pure v
+  after_expression (of_expression.AssignOperand op old r place) v =
+      convert.binary (rule.call functions go cx) op old v place
+      >>= (λ w. expression.write cx (reference_of r) w place >> pure w)
+  after_expression (of_expression.Comma rest) v = rule.comma_from functions go cx v (expressions_of rest.now)
+
+  -- ---- suffixes (11.2)
+
+  abbrev pub after_suffix : SuffixFrame → Value → Does Value
+  after_suffix (of_suffix.First purpose first suffixes) v =
+      rule.this_behind functions go cx first.now >>= (λ this. suffixes_by purpose this v (suffixes_of suffixes.now))
+  after_suffix (of_suffix.Index purpose base place rest) v =
+      test_base base place >> convert.to_text (rule.call functions go cx) v place
+      >>= (λ key. get base key place >>= (λ w. suffixes_by purpose base w (suffixes_of rest.now)))
+  after_suffix (of_suffix.Key base place) v =
+      test_base base place >> convert.to_text (rule.call functions go cx) v place
+      >>= (λ key. set_base base >> pure (value.Text key))
+  after_suffix (of_suffix.Argument purpose this callee done left place rest) v =
+      rule.arguments_from functions go cx (done ++ v ∷ []) (expressions_of left.now)
+      >>= (λ vs. convert.call_value (rule.call functions go cx) callee this vs place
+      >>= (λ w. suffixes_by purpose global_object w (suffixes_of rest.now)))
+  after_suffix (of_suffix.Called purpose rest) v = suffixes_by purpose global_object v (suffixes_of rest.now)
+
+  -- ---- statements (12)
+
+  -- what comes after a statement of a clause of a `switch`, or after a test
+  abbrev pub in_switch : AfterValue → AfterValue
+  in_switch after = broken_at value.Undefined statement.is_here after
+
+  abbrev pub rest_of_statement : StatementFrame → AfterValue → AfterValue
+  rest_of_statement (of_statement.Statements rest) after =
+      onward (λ _. rule.statements_from functions go cx (statements_of rest.now)) after
+  rest_of_statement of_statement.Evaluate after = onward (λ _. statement.nothing) after
+  rest_of_statement (of_statement.Var name place rest) after =
+      onward (λ v. write_name cx name.now v place >> rule.variables_from functions go cx place (declarations_of rest.now)) after
+  rest_of_statement (of_statement.Branch body rest last) after =
+      onward (λ v. if truth_of v then rule.execute functions go cx body.now
+      else rule.branches_from functions go cx (branches_of rest.now) (optional_statement last.now)) after
+  rest_of_statement of_statement.Return after = onward (λ v. abrupt (ending.Returned v)) after
+  rest_of_statement (of_statement.Throw place) after = onward (λ v. throw v place) after
+  rest_of_statement (of_statement.SwitchValue clauses) after =
+      onward (λ v after. rule.from_match functions go cx v (clauses_of clauses.now) (clauses_of clauses.now) (in_switch after)) after
+  rest_of_statement (of_statement.SwitchTest v all body rest) after =
+      onward (λ w. if strictly_equal v w
+      then rule.statements_from functions go cx (statements_of body.now) >> rule.clauses_from functions go cx (clauses_of rest.now)
+      else rule.from_match functions go cx v (clauses_of all.now) (clauses_of rest.now)) (in_switch after)
+  rest_of_statement (of_statement.SwitchBody body rest) after =
+      onward (λ _. rule.statements_from functions go cx (statements_of body.now) >> rule.clauses_from functions go cx (clauses_of rest.now)) (in_switch after)
+  rest_of_statement (of_statement.TryBlock place handler last) after =
+      rule.after_block functions go cx place (optional_catch handler.now) (rule.after_last functions go cx (optional_statement last.now) after)
+  rest_of_statement (of_statement.Handler last) after = rule.after_last functions go cx (optional_statement last.now) after
+  rest_of_statement (of_statement.Last end) after = onward (λ _. ends end) after
+
+  -- ---- loops (12.6)
+
+  abbrev pub while_turns : ℕ → WhileLoop → Does Value
+  while_turns n l = rule.while_turns functions go cx n l.place l.condition.now l.body.now
+
+  abbrev pub do_turns : ℕ → WhileLoop → Does Value
+  do_turns n l = rule.do_turns functions go cx n l.place l.body.now l.condition.now
+
+  -- the condition of a `do` loop, and then the next turn
+  abbrev pub do_next : ℕ → WhileLoop → Does Value
+  do_next n l = rule.visit functions go cx l.condition.now >>= (λ v. if truth_of v then do_turns n l else statement.nothing)
+
+  abbrev pub for_turns : ℕ → ForLoop → Does Value
+  for_turns n l = rule.for_turns functions go cx n l.place (optional_box l.condition.now) (optional_box l.step.now) l.body.now
+
+  -- the step of a `for` loop, and then the next turn
+  abbrev pub for_next : ℕ → ForLoop → Does Value
+  for_next n l = rule.evaluated_if functions go cx (optional_box l.step.now) >> for_turns n l
+
+  abbrev pub names_from : ForInLoop → Value → List (List ℕ) → Does Value
+  names_from l object names = rule.names_from functions go cx l.place (target_of l.target.now) l.body.now object names
+
+  -- the body of a loop, and then the next turn
+  abbrev pub turned_to : Does Value → AfterValue → AfterValue
+  turned_to next after = turned value.Undefined statement.is_here next after
+
+  abbrev pub rest_of_loop : LoopFrame → AfterValue → AfterValue
+  rest_of_loop (of_loop.WhileCondition n l) after =
+      onward (λ v. if truth_of v then (λ after. rule.execute functions go cx l.body.now (turned_to (while_turns n l) after)) else statement.nothing) after
+  rest_of_loop (of_loop.WhileBody n l) after = turned_to (while_turns n l) after
+  rest_of_loop (of_loop.DoBody n l) after = turned_to (do_next n l) after
+  rest_of_loop (of_loop.DoCondition n l) after = onward (λ v. if truth_of v then do_turns n l else statement.nothing) after
+  rest_of_loop (of_loop.ForStart l) after = onward (λ _. reading (λ s. for_turns (suc s.fuel) l)) after
+  rest_of_loop (of_loop.ForCondition n l) after =
+      onward (λ v. if truth_of v
+      then (λ after. rule.execute functions go cx l.body.now (turned_to (for_next n l) after))
+      else statement.nothing) after
+  rest_of_loop (of_loop.ForBody n l) after = turned_to (for_next n l) after
+  rest_of_loop (of_loop.ForStep n l) after = onward (λ _. for_turns n l) after
+  rest_of_loop (of_loop.ForInFirst name object l) after =
+      onward (λ v. write_name cx name.now v l.place >> rule.visit functions go cx object.now >>= (λ w.
+      rule.listed_names functions go cx w >>= (λ names. rule.charged_names functions go cx l.place names >> names_from l w names))) after
+  rest_of_loop (of_loop.ForInObject l) after =
+      onward (λ w. rule.listed_names functions go cx w >>= (λ names.
+      rule.charged_names functions go cx l.place names >> names_from l w names)) after
+  rest_of_loop (of_loop.ForInTarget target name object names l) after =
+      onward (λ key. the_base >>= (λ base. expression.write cx (expression.referred target.now key base) (value.Text name) l.place)
+      >> (λ after. rule.execute functions go cx l.body.now (turned_to (names_from l object names) after))) after
+  rest_of_loop (of_loop.ForInBody object names l) after = turned_to (names_from l object names) after
+
+  -- ---- entries (13.2)
+
+  abbrev pub rest_of_entry : EntryFrame → AfterValue → AfterValue
+  rest_of_entry (of_entry.Body rest) after =
+      onward (λ _. rule.statements_from functions go cx (statements_of rest.now)) (returned_to value.Undefined after)
+  rest_of_entry (of_entry.Construct made rest) after =
+      onward (λ _. rule.statements_from functions go cx (statements_of rest.now))
+      (returned_to value.Undefined (onward (λ v. pure (rule.object_or functions go cx (value.Object made) v)) after))
+
+  -- ---- all of them
+
+  abbrev pub rest_of_frame : Frame → AfterValue → AfterValue
+  rest_of_frame frame.Hold after = after
+  rest_of_frame (frame.Expression f) after = onward (after_expression f) after
+  rest_of_frame (frame.Suffix f) after = onward (after_suffix f) after
+  rest_of_frame (frame.Statement f) after = rest_of_statement f after
+  rest_of_frame (frame.Loop f) after = rest_of_loop f after
+  rest_of_frame (frame.Entry f) after = rest_of_entry f after
+  rest_of_frame (frame.Primitive object ms place w) after =
+      onward (λ v. if is_object v then convert.primitive_by (rule.call functions go cx) (names_of ms) object place else pure v)
+      (onward (with_primitive w) after)
+
+-- ---- the whole stack
+
+-- how many parts may still be opened
+abbrev pub room : List Open → ℕ
+room [] = most_open
+room (f ∷ fs) = room fs - 1
+
+-- evaluation of the parts within one that is open on these
+abbrev pub within : List FunctionTree → List Open → Within
+within functions fs = evaluation functions (room fs - 1)
+
+-- What all of them make of an end, the innermost first; last: what comes after the outermost.
+abbrev pub rest_of : List FunctionTree → AfterValue → List Open → AfterValue
+rest_of functions last [] = last
+rest_of functions last (f ∷ fs) =
+    rest_of_frame functions (within functions fs) (context_of f.context) f.frame (rest_of functions last fs)
