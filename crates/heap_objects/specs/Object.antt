@@ -14,6 +14,7 @@ use Rattle.heap_values.specs.declared.value.Value.{Value}
 use Rattle.heap_values.specs.declared.value.Value.TheVariants.{Number}
 use Rattle.heap_values.specs.Views.{ObjectView}
 use Rattle.heap_objects.specs.Names.{array_index}
+use Rattle.heap_objects.specs.declared.marks.Marks.{Marks}
 use Rattle.heap_objects.specs.Properties.{property_at, with_property, without_property}
 
 -- an object without properties
@@ -36,6 +37,14 @@ found_property (Some p) = found_content p.content
 -- what the object itself has under a name (8.12.1)
 abbrev pub own_found : ObjectView → List ℕ → Found
 own_found o name = if is_length o.kind name then found.Value (Number (pos o.length)) else found_property (property_at o.properties name)
+
+abbrev pub marks_if : Option Property → Option Marks
+marks_if None = None
+marks_if (Some p) = Some (record { listed = p.listed; deletable = p.deletable })
+
+-- the marks of the property of this name in the object's list (8.6.1)
+abbrev pub own_marks : ObjectView → List ℕ → Option Marks
+own_marks o name = marks_if (property_at o.properties name)
 
 abbrev pub raised : ℕ → Option ℕ → ℕ
 raised n None = n

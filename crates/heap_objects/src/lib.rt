@@ -7,6 +7,7 @@
 
 mod index;
 mod listing;
+mod marks;
 mod name_set;
 mod names;
 mod object;
@@ -16,6 +17,7 @@ mod row;
 mod scope;
 mod slots;
 
+pub use marks::Marks;
 pub use name_set::NameSet;
 pub use names::array_index;
 pub use object::Object;

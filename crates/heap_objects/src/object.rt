@@ -5,6 +5,7 @@ ghost use Rattle.heap_objects.specs.Object.{
   empty_object,
   own_found,
   found_property,
+  own_marks,
   is_length,
   grown_length_of,
   put_cost_of,
@@ -19,6 +20,7 @@ ghost use Rattle.heap_objects.specs.Object.{
 };
 ghost use Rattle.heap_objects.specs.Properties.{listed_names_of, without_property};
 
+use crate::marks::Marks;
 use crate::names::array_index;
 use crate::properties::Properties;
 use heap_values::{Content, Found, Kind, ObjectId, Property, Value};
@@ -97,6 +99,17 @@ impl Object {
             return Ok(Found::Value(Value::Number(Whole::from(self.length))));
         }
         found_under(alloc, self.properties.get(name))
+    }
+
+    /// The marks of the object's own property of this name. The length of an array is none.
+    pub fn own_marks(&self, name: &Text) -> Option<Marks>
+        ensures { result ≡ own_marks self.now name.now }
+    {
+        let property = self.properties.get(name)?;
+        Some(Marks {
+            listed: property.listed,
+            deletable: property.deletable,
+        })
     }
 
     /// The length that the object has once something stands under `name`.

@@ -13,7 +13,8 @@ use Rattle.heap_values.specs.declared.value.Value.{Value}
 use Rattle.heap_values.specs.declared.value.Value.TheVariants.{Undefined, Number}
 use Rattle.heap_values.specs.Views.{ObjectView, ScopeView, HeapView}
 use Rattle.heap_objects.specs.Keys.{with_names}
-use Rattle.heap_objects.specs.Object.{empty_object, own_found, is_length, grown_length_of, put_cost_of, object_with, can_delete, object_without, object_cut}
+use Rattle.heap_objects.specs.declared.marks.Marks.{Marks}
+use Rattle.heap_objects.specs.Object.{empty_object, own_found, own_marks, is_length, grown_length_of, put_cost_of, object_with, can_delete, object_without, object_cut}
 use Rattle.heap_objects.specs.Properties.{property_at, listed_names_of}
 use Rattle.heap_objects.specs.Scope.{fresh_scope, slot_in, scope_with}
 
@@ -69,6 +70,10 @@ or_found f rest = f
 abbrev pub own_found_in : Option ObjectView → List ℕ → Found
 own_found_in None name = found.Absent
 own_found_in (Some o) name = own_found o name
+
+abbrev pub own_marks_in : Option ObjectView → List ℕ → Option Marks
+own_marks_in None name = None
+own_marks_in (Some o) name = own_marks o name
 
 -- what the first of these objects that has the name has under it
 abbrev pub found_among : HeapView → List ObjectId → List ℕ → Found

@@ -26,6 +26,7 @@ ghost use Rattle.object_heap.specs.Heap.{
   length_of,
   found_of,
   own_found_in,
+  own_marks_in,
   is_absent,
   older_of,
   made_of,
@@ -43,7 +44,7 @@ ghost use Rattle.object_heap.specs.Heap.{
 };
 
 use crate::fresh::{make_built_ins, object_of};
-use heap_objects::{NameSet, Object, Scope};
+use heap_objects::{Marks, NameSet, Object, Scope};
 use heap_values::{BuiltIn, Content, Found, HeapAnswer, Kind, ObjectId, Property, ScopeId, Value};
 use std::alloc::Global;
 use std::marker::Model;
@@ -181,6 +182,13 @@ impl Heap {
             None => Ok(Found::Absent),
             Some(object) => object.find_own(alloc, name),
         }
+    }
+
+    /// The marks of the object's own property of this name. The length of an array is none.
+    pub fn own_marks(&self, object: ObjectId, name: &Text) -> Option<Marks>
+        ensures { result ≡ own_marks_in (object_at self.now object) name.now }
+    {
+        self.objects.get(object.0 as usize)?.own_marks(name)
     }
 
     /// Makes an object without properties, which is one cell. A prototype that isn't older is left out.

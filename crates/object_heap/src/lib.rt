@@ -10,4 +10,5 @@ mod heap;
 mod table;
 
 pub use heap::Heap;
+pub use heap_objects::Marks;
 pub use heap_values::{BuiltIn, Found, HeapAnswer, Kind, ObjectId, ScopeId, Value};
