@@ -1,10 +1,9 @@
-// Messages as RFC 1035 (section 4.1) lays them out, whole, damaged and hostile.
-ghost use Rattle.std.specs.Prelude.{◌+◌, ◌≤◌, length};
+// The messages of the table, whole and changed.
+ghost use Rattle.std.specs.Prelude.{◌≤◌};
 
-use dns_message::{read_query, read_reply, write_query, write_reply};
-use pac_names::{Answer, LookupName};
+use anyhow::{Context, Result, bail, ensure};
+use case_rows::octets;
 use std::alloc::{AllocError, Global};
-use std::test::Fail;
 
 // The question for example.com under the number 1234 (hexadecimal).
 const QUESTION: [u8; 29] = [
@@ -19,8 +18,6 @@ const REPLY: [u8; 45] = [
     0x01, 0x00, 0x01, 0x00, 0x00, 0x00, 0x3c, 0x00, 0x04, 0x5d, 0xb8, 0xd8, 0x22,
 ];
 
-const ADDRESS: Answer = Answer::Address(0x5db8d822);
-
 // A reply for www.example.com under the number 1: an address of web.example.com, whose name stands at 33, and behind it
 // at 53 the record that www is an alias of web.
 const ALIAS: [u8; 67] = [
@@ -31,102 +28,59 @@ const ALIAS: [u8; 67] = [
     0x02, 0xc0, 0x21,
 ];
 
-fn name(text: &[u8]) -> Result<LookupName, &'static str> {
-    LookupName::from_bytes(text).ok_or("a name")
-}
-
-// The first octets of a buffer.
-fn front(buffer: &[u8; 512], count: usize) -> &[u8]
-    requires { count ≤ 512 }
-{
-    &buffer[..count]
-}
-
-fn changed(at: usize, octets: &[u8]) -> [u8; 45]
-    requires { at + length octets.now ≤ 45 }
-{
-    let mut datagram = REPLY;
-    datagram[at..at + octets.len()].copy_from_slice(octets);
-    datagram
-}
-
-// The reply with some octets changed, and what it then answers.
-#[test]
-fn changed_replies(rt: HostRuntime) -> Result<(), Fail> {
-    let example = name(b"example.com")?;
-    for (at, octets, want) in [
-        (0, b"\x12\x34".as_slice(), Some(ADDRESS)),
-        (0, b"\x12\x35", None),
-        // QR 0, opcode 1, TC 1, RCODE 2; RCODE 3; AA 1
-        (2, b"\x01\x80", None),
-        (2, b"\x89\x80", None),
-        (2, b"\x83\x80", None),
-        (2, b"\x81\x82", None),
-        (2, b"\x81\x83", Some(Answer::NoAddress)),
-        (2, b"\x85\x80", Some(ADDRESS)),
-        // QDCOUNT 0 and 2; ANCOUNT 0, 2 and 65535; NSCOUNT 1
-        (4, b"\x00\x00", None),
-        (4, b"\x00\x02", None),
-        (6, b"\x00\x00", Some(Answer::NoAddress)),
-        (6, b"\x00\x02", None),
-        (6, b"\xff\xff", None),
-        (8, b"\x00\x01", Some(ADDRESS)),
-        // another question: a letter, the labels, the type and the class; in upper case it is the same
-        (13, b"f", None),
-        (12, b"\x0bexample.com", None),
-        (25, b"\x00\x1c", None),
-        (27, b"\x00\x03", None),
-        (13, b"EXAMPLE\x03Com", Some(ADDRESS)),
-        // the owner: a pointer to itself, past the end, and top bits 01 and 10; the root; com
-        (29, b"\xc0\x1d", None),
-        (29, b"\xc0\xff", None),
-        (29, b"\x40\x0c", None),
-        (29, b"\x80\x0c", None),
-        (29, b"\xc0\x18", Some(Answer::NoAddress)),
-        (29, b"\xc0\x14", Some(Answer::NoAddress)),
-        // another type, another class, and an address of three octets or too many
-        (31, b"\x00\x10", Some(Answer::NoAddress)),
-        (33, b"\x00\x03", Some(Answer::NoAddress)),
-        (39, b"\x00\x03", None),
-        (39, b"\xff\xff", None),
-    ] {
-        assert!(rt; at <= 45);
-        assert!(rt; octets.len() <= 45 - at);
-        let answer = read_reply(&changed(at, octets), 0x1234, &example);
-        assert_eq!(rt; answer, want, "{octets:?} at {at}");
+/// The message of a field, with the changes of the fields behind it.
+pub(crate) fn message_in(alloc: Global, fields: &[&str]) -> Result<Vec<u8>> {
+    let Some((name, changes)) = fields.split_first() else {
+        bail!("a message");
+    };
+    let mut message = message_named(alloc, name)?;
+    for change in changes {
+        let (place, written) = change.split_once(' ').context("a place and octets")?;
+        match place {
+            "cut" => message.truncate(written.parse::<usize>()?),
+            _ => overwrite(
+                &mut message,
+                place.parse::<usize>()?,
+                &octets(alloc, written)?,
+            )?,
+        }
     }
-    Ok(())
+    Ok(message)
 }
 
-// Replies that are cut, or longer, and the one that was written.
-#[test]
-fn whole_and_cut_replies(rt: HostRuntime) -> Result<(), Fail> {
-    let example = name(b"example.com")?;
-    for end in 0..45 {
-        assert_eq!(rt; read_reply(&REPLY[..end], 0x1234, &example), None, "{end}");
+fn message_named(alloc: Global, name: &str) -> Result<Vec<u8>> {
+    let mut message = Vec::new(alloc);
+    match name {
+        "nothing" => {}
+        "question" => message.extend_from_slice(&QUESTION)?,
+        "reply" => message.extend_from_slice(&REPLY)?,
+        "alias" => message.extend_from_slice(&ALIAS)?,
+        "picture" => return picture(alloc),
+        _ => return numbered(alloc, name),
     }
-    let mut longer = [0u8; 46];
-    longer[..45].copy_from_slice(&REPLY);
-    assert_eq!(rt; read_reply(&longer, 0x1234, &example), Some(ADDRESS));
-    let other = name(b"example.org")?;
-    assert_eq!(rt; read_reply(&REPLY, 0x1234, &other), None);
+    Ok(message)
+}
 
-    let mut buffer = [0xee; 512];
-    assert_eq!(rt; write_reply(&mut buffer, 0x1234, &example, ADDRESS), 45);
-    assert!(rt; front(&buffer, 45) == REPLY.as_slice());
-    assert_eq!(rt; buffer[45], 0xee);
-    assert_eq!(rt;
-        write_reply(&mut buffer, 0x1234, &example, Answer::NoAddress),
-        29
-    );
-    assert!(rt;
-        front(&buffer, 12) == b"\x12\x34\x81\x83\x00\x01\x00\x00\x00\x00\x00\x00".as_slice()
-    );
-    assert_eq!(rt;
-        read_reply(front(&buffer, 29), 0x1234, &example),
-        Some(Answer::NoAddress)
-    );
-    Ok(())
+// F.ISI.ARPA at 20, FOO.F.ISI.ARPA at 40, a pointer to ARPA at 64 and the root at 92: the RFC's own picture.
+fn picture(alloc: Global) -> Result<Vec<u8>> {
+    let mut message = vec![in alloc; 0u8; 93]?;
+    overwrite(&mut message, 20, b"\x01F\x03ISI\x04ARPA\x00")?;
+    overwrite(&mut message, 40, b"\x03FOO\xc0\x14")?;
+    overwrite(&mut message, 64, b"\xc0\x1a")?;
+    Ok(message)
+}
+
+fn numbered(alloc: Global, name: &str) -> Result<Vec<u8>> {
+    let (name, number) = name.split_once(' ').context("a message")?;
+    let number = number.parse::<u8>()?;
+    match name {
+        "chain" => {
+            ensure!(number <= 20, "at most 20 aliases");
+            Ok(chain(alloc, number)?)
+        }
+        "long" => long_name(alloc, number),
+        _ => bail!("no message {name}"),
+    }
 }
 
 // A chain from the name `a` through so many aliases, each record before the one that leads to it, to an address.
@@ -146,62 +100,23 @@ fn chain(alloc: Global, steps: u8) -> Result<Vec<u8>, AllocError>
     Ok(datagram)
 }
 
-#[test]
-fn aliases_are_followed(rt: HostRuntime) -> Result<(), Fail> {
-    let www = name(b"www.example.com")?;
-    assert_eq!(rt;
-        read_reply(&ALIAS, 1, &www),
-        Some(Answer::Address(0x0a000005))
-    );
-    // The name is an alias of itself, and has an address: after the last step that address stands.
-    let mut itself = ALIAS;
-    itself[33..39].copy_from_slice(b"\x03www\xc0\x10");
-    itself[65..67].copy_from_slice(b"\xc0\x0c");
-    assert_eq!(rt;
-        read_reply(&itself, 1, &www),
-        Some(Answer::Address(0x0a000005))
-    );
-    // The data of the alias is no name, or doesn't end where it should.
-    let mut cut = ALIAS;
-    cut[65..67].copy_from_slice(b"\xc0\x41");
-    assert_eq!(rt; read_reply(&cut, 1, &www), None);
-    let mut short = ALIAS;
-    short[65..67].copy_from_slice(b"\x00\x00");
-    assert_eq!(rt; read_reply(&short, 1, &www), None);
-
-    let a = name(b"a")?;
-    for (steps, want) in [
-        (0, Answer::Address(0x0a000009)),
-        (1, Answer::Address(0x0a000009)),
-        (16, Answer::Address(0x0a000009)),
-        (17, Answer::NoAddress),
-    ] {
-        assert!(rt; steps <= 20);
-        let datagram = chain(rt.alloc(), steps)?;
-        assert_eq!(rt; read_reply(&datagram, 1, &a), Some(want), "{steps}");
+// Three labels of 63 octets and one of so many, and octets behind it.
+fn long_name(alloc: Global, last: u8) -> Result<Vec<u8>> {
+    let mut message = vec![in alloc; b'a'; 300]?;
+    for place in [0, 64, 128] {
+        overwrite(&mut message, place, &[63])?;
     }
-    Ok(())
+    overwrite(&mut message, 192, &[last])?;
+    overwrite(&mut message, 193 + usize::from(last), &[0])?;
+    Ok(message)
 }
 
-#[test]
-fn questions(rt: HostRuntime) -> Result<(), Fail> {
-    let example = name(b"example.com")?;
-    let mut buffer = [0xee; 512];
-    assert_eq!(rt; write_query(&mut buffer, 0x1234, &example), 29);
-    assert!(rt; front(&buffer, 29) == QUESTION.as_slice());
-    assert_eq!(rt; buffer[29], 0xee);
-    let (id, asked) = read_query(&QUESTION).ok_or("a question")?;
-    assert_eq!(rt; id, 0x1234);
-    assert!(rt; asked == example);
-    // In upper case, with a pointer in the place of the root, cut, longer, and as a reply it isn't what is written.
-    for (at, octet) in [(13, b'E'), (24, 0xc0), (12, 8), (2, 0x81), (26, 5), (28, 3)] {
-        let mut other = QUESTION;
-        assert!(rt; at < 29);
-        other[at] = octet;
-        assert!(rt; read_query(&other).is_none(), "{at}");
+/// Writes octets over those at a place, and behind the end.
+fn overwrite(message: &mut Vec<u8>, place: usize, octets: &[u8]) -> Result<()> {
+    let end = place.checked_add(octets.len()).context("a place")?;
+    if end > message.len() {
+        message.resize(end, 0)?;
     }
-    assert!(rt; read_query(&QUESTION[..28]).is_none());
-    assert!(rt; read_query(front(&buffer, 30)).is_none());
-    assert!(rt; read_query(&[]).is_none());
+    message[place..end].copy_from_slice(octets);
     Ok(())
 }

@@ -1,100 +1,85 @@
-// The rules at their edges.
+// Lookup names, quads and networks.
+use crate::replies::written_answer;
+use anyhow::{Context, Result, bail};
+use case_rows::{text, written_octets};
 use pac_names::{Answer, LookupName, bad_quad, in_net, lookup_name, quad};
+use std::alloc::Global;
 use std::collections::{BTreeMap, HashMap};
-use std::test::Fail;
-use utf16_text::Text;
 
-const LABEL_63: &str = "aaaaaaaaaabbbbbbbbbbccccccccccddddddddddeeeeeeeeeeffffffffffggg";
-
-// Each text with the lookup name that it spells by the rules, or nothing.
-#[test]
-fn names_at_their_edges(rt: HostRuntime) -> Result<(), Fail> {
-    let alloc = rt.alloc();
-    let longest = format!(in alloc; "{LABEL_63}.{LABEL_63}.{LABEL_63}.{}", &LABEL_63[..61])?;
-    let too_long = format!(in alloc; "{LABEL_63}.{LABEL_63}.{LABEL_63}.{}", &LABEL_63[..62])?;
-    let dotted = format!(in alloc; "{}.", longest.as_str())?;
-    let label_64 = format!(in alloc; "{LABEL_63}h")?;
-    for (text, want) in [
-        ("EXAMPLE.Com.", Some("example.com")),
-        ("a", Some("a")),
-        ("_sip.a-b.example", Some("_sip.a-b.example")),
-        ("-", Some("-")),
-        (LABEL_63, Some(LABEL_63)),
-        (label_64.as_str(), None),
-        (longest.as_str(), Some(longest.as_str())),
-        (dotted.as_str(), Some(longest.as_str())),
-        (too_long.as_str(), None),
-        ("", None),
-        (".", None),
-        ("a..b", None),
-        (".a", None),
-        ("a..", None),
-        ("a b", None),
-        ("a\u{e9}.example", None),
-        ("\u{12e}.example", None),
-        ("1.2.3.4", None),
-        ("1.2.3.4.", None),
-        ("300.1.1.1", None),
-        ("300.1.1.1.", None),
-        ("1.2.3", Some("1.2.3")),
-        ("1.2.3.0004", Some("1.2.3.0004")),
-        ("1.2.3.4.5", Some("1.2.3.4.5")),
-    ] {
-        let name = lookup_name(&Text::from_str(alloc, text)?);
-        match (name, want) {
-            (Some(name), Some(want)) => assert!(rt; name.bytes() == want.as_bytes(), "{text}"),
-            (None, None) => {}
-            _ => assert!(rt; false, "{text}"),
-        }
-    }
-    Ok(())
+pub(crate) fn word(alloc: Global, word: &str) -> Result<String> {
+    Ok(String::from_str(alloc, word)?)
 }
 
-// Each text with the address that it writes, or nothing, and whether it is a bad quad.
-#[test]
-fn quads_at_their_edges(rt: HostRuntime) -> Result<(), Fail> {
-    let alloc = rt.alloc();
-    for (text, want, bad) in [
-        ("1.2.3.4", Some(0x01020304), false),
-        ("001.002.003.004", Some(0x01020304), false),
-        ("0.0.0.0", Some(0), false),
-        ("255.255.255.255", Some(0xffffffff), false),
-        ("93.184.216.34", Some(0x5db8d822), false),
-        ("256.1.1.1", None, true),
-        ("300.1.1.1", None, true),
-        ("1.1.1.999", None, true),
-        ("1.2.3.4.", None, false),
-        ("300.1.1.1.", None, false),
-        ("1.2.3.0004", None, false),
-        ("1.2.3", None, false),
-        ("1.2.3.4.5", None, false),
-        ("1.2.3.x", None, false),
-        ("1..3.4", None, false),
-        ("", None, false),
-    ] {
-        let text = Text::from_str(alloc, text)?;
-        assert_eq!(rt; quad(&text), want);
-        assert_eq!(rt; bad_quad(&text), bad);
-    }
-    assert!(rt; in_net(0x0a141e28, 0x0a140000, 0xffff0000));
-    assert!(rt; !in_net(0x0a151e28, 0x0a140000, 0xffff0000));
-    Ok(())
+pub(crate) fn name_in(_alloc: Global, field: &str) -> Result<LookupName> {
+    LookupName::from_bytes(field.as_bytes()).context("a name")
 }
 
-// Names serve as keys of both kinds of map, and a copy is the same key.
-#[test]
-fn names_are_keys(rt: HostRuntime) -> Result<(), Fail> {
-    let alloc = rt.alloc();
-    let name = LookupName::from_bytes(b"b.example").ok_or("a name")?;
-    let other = LookupName::from_bytes(b"a.example").ok_or("a name")?;
-    assert!(rt; other < name);
+/// The lookup name that a text spells.
+pub(crate) fn lookup(alloc: Global, fields: &[&str]) -> Result<String> {
+    let [field] = fields else {
+        bail!("a text");
+    };
+    match lookup_name(&text(alloc, field)?) {
+        Some(name) => written_octets(alloc, name.bytes()),
+        None => word(alloc, "nothing"),
+    }
+}
+
+/// The address that a text writes as four numbers, and whether it is such with a number over 255.
+pub(crate) fn address(alloc: Global, fields: &[&str]) -> Result<String> {
+    let [field] = fields else {
+        bail!("a text");
+    };
+    let text = text(alloc, field)?;
+    let bad = bad_quad(&text);
+    match quad(&text) {
+        Some(address) => Ok(format!(in alloc; "{address:08x} {bad}")?),
+        None => Ok(format!(in alloc; "nothing {bad}")?),
+    }
+}
+
+/// Whether an address is of the network of a pattern and a mask.
+pub(crate) fn is_in_network(alloc: Global, fields: &[&str]) -> Result<String> {
+    let [address, pattern, mask] = fields else {
+        bail!("an address, a pattern and a mask");
+    };
+    let address = u32::from_str_radix(address, 16)?;
+    let pattern = u32::from_str_radix(pattern, 16)?;
+    let within = in_net(address, pattern, u32::from_str_radix(mask, 16)?);
+    Ok(format!(in alloc; "{within}")?)
+}
+
+/// Whether a name is less than another, which is a key of two maps, and what stands in these under each of them. A copy
+/// is the same key.
+pub(crate) fn keys(alloc: Global, fields: &[&str]) -> Result<String> {
+    let [one, other] = fields else {
+        bail!("two names");
+    };
+    let (one, other) = (name_in(alloc, one)?, name_in(alloc, other)?);
     let mut ordered = BTreeMap::new(alloc);
     let mut hashed = HashMap::new(alloc);
-    ordered.insert(name.copy(), Answer::NoAddress)?;
-    hashed.insert(name.clone()?, Answer::Address(1))?;
-    assert_eq!(rt; ordered.get(&name).copied(), Some(Answer::NoAddress));
-    assert_eq!(rt; hashed.get(&name).copied(), Some(Answer::Address(1)));
-    assert_eq!(rt; ordered.get(&other).copied(), None);
-    assert_eq!(rt; hashed.get(&other).copied(), None);
-    Ok(())
+    ordered.insert(other.copy(), Answer::NoAddress)?;
+    hashed.insert(other.clone()?, Answer::Address(1))?;
+    let by_order = both(
+        alloc,
+        ordered.get(&one).copied(),
+        ordered.get(&other).copied(),
+    )?;
+    let by_hash = both(
+        alloc,
+        hashed.get(&one).copied(),
+        hashed.get(&other).copied(),
+    )?;
+    Ok(format!(in alloc;
+        "{}, {}, {}",
+        one < other,
+        by_order.as_str(),
+        by_hash.as_str()
+    )?)
+}
+
+fn both(alloc: Global, one: Option<Answer>, other: Option<Answer>) -> Result<String> {
+    let one = written_answer(alloc, one)?;
+    let other = written_answer(alloc, other)?;
+    Ok(format!(in alloc; "{} and {}", one.as_str(), other.as_str())?)
 }

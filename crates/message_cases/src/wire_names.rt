@@ -1,89 +1,58 @@
-// Names in messages, as RFC 1035 (section 4.1.4) draws them, and at the limits.
-ghost use Rattle.std.specs.Prelude.{◌≤◌};
-
+// Names in messages.
+use crate::messages::message_in;
+use crate::names::{name_in, word};
+use anyhow::{Result, bail, ensure};
+use case_rows::written_octets;
 use dns_name::{name_end, same_name, skip_name, spells, write_name};
-use pac_names::LookupName;
-use std::test::Fail;
+use std::alloc::Global;
 
-// F.ISI.ARPA at 20, FOO.F.ISI.ARPA at 40, a pointer to ARPA at 64 and the root at 92: the RFC's own picture.
-fn picture() -> [u8; 93] {
-    let mut message = [0u8; 93];
-    message[20..32].copy_from_slice(b"\x01F\x03ISI\x04ARPA\x00");
-    message[40..46].copy_from_slice(b"\x03FOO\xc0\x14");
-    message[64..66].copy_from_slice(b"\xc0\x1a");
-    message
-}
-
-// Each offset of the picture with the offset behind the name there, or nothing.
-#[test]
-fn picture_of_the_rfc(rt: HostRuntime) -> Result<(), Fail> {
-    let message = picture();
-    for (at, want) in [
-        (20, Some(32)),
-        (22, Some(32)),
-        (26, Some(32)),
-        (40, Some(46)),
-        (44, Some(46)),
-        (64, Some(66)),
-        (92, Some(93)),
-        (93, None),
-    ] {
-        assert_eq!(rt; skip_name(&message, at), want, "at {at}");
-        if let Some(behind) = want {
-            assert_eq!(rt; name_end(&message, at), behind, "at {at}");
-        }
+/// The end of the name at a place of a message, as it is checked and as it is skipped.
+pub(crate) fn end(alloc: Global, fields: &[&str]) -> Result<String> {
+    let [place, message @ ..] = fields else {
+        bail!("a place and a message");
+    };
+    let message = message_in(alloc, message)?;
+    let place = place.parse::<usize>()?;
+    match skip_name(&message, place) {
+        None => word(alloc, "nothing"),
+        Some(end) => Ok(format!(in alloc; "{end} {}", name_end(&message, place))?),
     }
-    let name = LookupName::from_bytes(b"foo.f.isi.arpa").ok_or("a name")?;
-    assert!(rt; spells(&message, 40, &name));
-    assert!(rt; !spells(&message, 20, &name));
-    assert!(rt; same_name(&message, 64, 26));
-    assert!(rt; !same_name(&message, 64, 92));
-    assert!(rt; same_name(&message, 92, 0));
-    Ok(())
 }
 
-// Messages in which no name stands at 2, and some in which one just does.
-#[test]
-fn what_is_no_name(rt: HostRuntime) -> Result<(), Fail> {
-    for (message, want) in [
-        (b"\x00\x00\xc0\x00".as_slice(), Some(4)),
-        (b"\x00\x00\xc0\x02", None),
-        (b"\x00\x00\xc0\x04\x00", None),
-        (b"\x00\x00\xc0", None),
-        (b"\x00\x00\x01a\xc0\x02", None),
-        (b"\x00\x00\x01a\xc0\x00", Some(6)),
-        (b"\x00\x00\x01a", None),
-        (b"\x00\x00\x40a\x00", None),
-        (b"\x00\x00\x80a\x00", None),
-        (b"\x00\x00\x03ab", None),
-        (b"\xc0\x00\xc0\x00", None),
-    ] {
-        assert_eq!(rt; skip_name(message, 2), want);
-    }
-    Ok(())
+/// Whether a name is spelled at a place of a message.
+pub(crate) fn is_spelled(alloc: Global, fields: &[&str]) -> Result<String> {
+    let [place, name, message @ ..] = fields else {
+        bail!("a place, a name and a message");
+    };
+    let message = message_in(alloc, message)?;
+    let name = name_in(alloc, name)?;
+    Ok(format!(in alloc; "{}", spells(&message, place.parse::<usize>()?, &name))?)
 }
 
-// Three labels of 63 octets and one of n, in 194 + n octets.
-fn long_name(n: u8) -> [u8; 300]
-    requires { n ≤ 63 }
-{
-    let mut message = [b'a'; 300];
-    for at in [0, 64, 128] {
-        message[at] = 63;
-    }
-    message[192] = n;
-    message[193 + usize::from(n)] = 0;
-    message
+/// Whether the names at two places of a message are the same.
+pub(crate) fn are_same(alloc: Global, fields: &[&str]) -> Result<String> {
+    let [one, other, message @ ..] = fields else {
+        bail!("two places and a message");
+    };
+    let message = message_in(alloc, message)?;
+    let same = same_name(&message, one.parse::<usize>()?, other.parse::<usize>()?);
+    Ok(format!(in alloc; "{same}")?)
 }
 
-#[test]
-fn limits_of_a_name(rt: HostRuntime) -> Result<(), Fail> {
-    assert_eq!(rt; skip_name(&long_name(61), 0), Some(255));
-    assert_eq!(rt; skip_name(&long_name(62), 0), None);
-    let name = LookupName::from_bytes(b"example.com").ok_or("a name")?;
+/// A name that is written at a place: its end, the octets from one before to one behind, and whether it is spelled.
+pub(crate) fn written(alloc: Global, fields: &[&str]) -> Result<String> {
+    let [place, name] = fields else {
+        bail!("a place and a name");
+    };
+    let place = place.parse::<usize>()?;
+    ensure!(place >= 1 && place <= 257, "a place from 1 to 257");
+    let name = name_in(alloc, name)?;
     let mut buffer = [7u8; 512];
-    assert_eq!(rt; write_name(&mut buffer, 12, &name), 25);
-    assert!(rt; &buffer[11..26] == b"\x07\x07example\x03com\x00\x07".as_slice());
-    assert!(rt; spells(&buffer, 12, &name));
-    Ok(())
+    let end = write_name(&mut buffer, place, &name);
+    let Some(octets) = buffer.get(place - 1..end.saturating_add(1)) else {
+        bail!("a name that ends at {end}");
+    };
+    let octets = written_octets(alloc, octets)?;
+    let spelled = spells(&buffer, place, &name);
+    Ok(format!(in alloc; "{end} {} {spelled}", octets.as_str())?)
 }

@@ -1,4 +1,4 @@
-// What trees are printed as that no script spells, and texts with escapes; `reading` prints all that is read. The
+// What trees are printed as that no script spells, and texts with escapes; script_cases prints all that is read. The
 // expected texts are written by hand from the rules in docs/DECISIONS.md, "The language".
 use js_printer::print;
 use js_tree::{

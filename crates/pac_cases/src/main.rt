@@ -1,0 +1,44 @@
+//! Shell expressions, ranges of weekdays, dates and times, and what a script sees of a URL: a table of calls with their
+//! answers.
+//!
+//! The cases are those of the page on the Netscape Navigator Proxy Auto-Config format, those of the URL Standard, and
+//! those in which docs/ decides what they leave open. It reads them from its input, and stands on pac_match,
+//! pac_calendar and batch_text.
+#![tactic(auto)]
+
+mod clocks;
+mod ranges;
+mod urls;
+
+use anyhow::{Result, bail};
+use case_rows::text;
+use pac_match::sh_exp_match;
+use std::alloc::Global;
+
+fn main(rt: HostRuntime) -> Result<()> {
+    case_rows::run(&rt, answer)
+}
+
+fn answer(alloc: Global, part: &str, fields: &[&str]) -> Result<String> {
+    match part {
+        "shell expressions" => matches(alloc, fields),
+        "weekdays" => ranges::weekdays(alloc, fields),
+        "dates" => ranges::dates(alloc, fields),
+        "times" => ranges::times(alloc, fields),
+        "a chosen clock" => ranges::at_moment(alloc, fields),
+        "moments" => clocks::shown(alloc, fields),
+        "zones" => clocks::seconds(alloc, fields),
+        "urls" => urls::seen(alloc, fields),
+        "long urls" => urls::length(alloc, fields),
+        _ => bail!("no part {part}"),
+    }
+}
+
+/// Whether a shell expression matches a text.
+fn matches(alloc: Global, fields: &[&str]) -> Result<String> {
+    let [units, expression] = fields else {
+        bail!("a text and an expression");
+    };
+    let matched = sh_exp_match(&text(alloc, units)?, &text(alloc, expression)?);
+    Ok(format!(in alloc; "{matched}")?)
+}
