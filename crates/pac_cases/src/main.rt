@@ -1,12 +1,13 @@
-//! Shell expressions, ranges of weekdays, dates and times, and what a script sees of a URL: a table of calls with their
-//! answers.
+//! What scripts are handed: shell expressions, ranges of weekdays, dates and times, the functions over a host, and what a
+//! script sees of a URL. A table of calls with their answers.
 //!
 //! The cases are those of the page on the Netscape Navigator Proxy Auto-Config format, those of the URL Standard, and
 //! those in which docs/ decides what they leave open. It reads them from its input, and stands on pac_match,
-//! pac_calendar and batch_text.
+//! pac_calendar, pac_functions and batch_text.
 #![tactic(auto)]
 
 mod clocks;
+mod functions;
 mod ranges;
 mod urls;
 
@@ -28,6 +29,8 @@ fn answer(alloc: Global, part: &str, fields: &[&str]) -> Result<String> {
         "a chosen clock" => ranges::at_moment(alloc, fields),
         "moments" => clocks::shown(alloc, fields),
         "zones" => clocks::seconds(alloc, fields),
+        "calls" => functions::called(alloc, fields),
+        "calls after other names" => functions::called_late(alloc, fields),
         "urls" => urls::seen(alloc, fields),
         "long urls" => urls::length(alloc, fields),
         _ => bail!("no part {part}"),

@@ -1,0 +1,126 @@
+// Calls of the functions that scripts are handed.
+use crate::clocks::moments_in;
+use answer_table::AnswerTable;
+use anyhow::{Context, Result, bail, ensure};
+use case_rows::{Sample, samples, written_text};
+use heap_values::{ObjectId, Value};
+use js_convert::to_text;
+use pac_functions::{PacAnswer, PacFunction, PacSettings, call_pac};
+use pac_names::{Answer, LookupName};
+use std::alloc::Global;
+use tracing_host::TracingHost;
+use utf16_text::Text;
+
+/// 192.168.1.10, the machine's own address in these rows.
+const SETTINGS: PacSettings = PacSettings { my_ip: 0xC0A8_010A };
+
+/// What a call gives, what it asked and what it told, over a host that knows `home.netscape.com` and that
+/// `www.netscape.com` has no address, and on a Sunday at noon in GMT.
+pub(crate) fn called(alloc: Global, fields: &[&str]) -> Result<String> {
+    told_after(alloc, 0, fields)
+}
+
+/// The same where so many other names were asked before.
+pub(crate) fn called_late(alloc: Global, fields: &[&str]) -> Result<String> {
+    let (asked, call) = fields.split_first().context("how many names")?;
+    told_after(alloc, asked.parse::<u32>()?, call)
+}
+
+fn told_after(alloc: Global, asked: u32, call: &[&str]) -> Result<String> {
+    let (name, args) = call.split_first().context("a function")?;
+    let function = function_named(name)?;
+    let args = values(alloc, args)?;
+    let now = moments_in(alloc, "UTC", "946814400")?;
+    let table = known(alloc)?;
+    let mut host = TracingHost::new(alloc, &table);
+    for number in 0..asked {
+        let earlier = Text::from_str(alloc, &format!(in alloc; "n{number}.example")?)?;
+        let earlier = [Value::Text(earlier)];
+        call_pac(
+            alloc,
+            PacFunction::IsResolvable,
+            &earlier,
+            &now,
+            &SETTINGS,
+            &mut host,
+        );
+    }
+    let answer = call_pac(alloc, function, &args, &now, &SETTINGS, &mut host);
+    let mut told = written(alloc, &answer)?;
+    for name in host.asked().as_slice().iter().skip(asked as usize) {
+        told.push_str(", asked ")?;
+        told.push_str(name_text(name)?)?;
+    }
+    for alert in host.alerts().as_slice() {
+        told.push_str(", alert ")?;
+        told.push_str(written_text(alloc, alert)?.as_str())?;
+    }
+    Ok(told)
+}
+
+/// The answers that the host knows.
+fn known(alloc: Global) -> Result<AnswerTable> {
+    let mut table = AnswerTable::new(alloc);
+    let home = Answer::Address(0xC65F_F94F);
+    learn(alloc, &mut table, "home.netscape.com", home)?;
+    learn(alloc, &mut table, "www.netscape.com", Answer::NoAddress)?;
+    Ok(table)
+}
+
+fn learn(alloc: Global, table: &mut AnswerTable, name: &str, answer: Answer) -> Result<()> {
+    let name = LookupName::from_bytes(name.as_bytes()).context("a lookup name")?;
+    ensure!(table.get(&name).is_none(), "each name once");
+    table.insert(alloc, name, answer)?;
+    Ok(())
+}
+
+fn function_named(name: &str) -> Result<PacFunction> {
+    Ok(match name {
+        "isPlainHostName" => PacFunction::IsPlainHostName,
+        "dnsDomainIs" => PacFunction::DnsDomainIs,
+        "localHostOrDomainIs" => PacFunction::LocalHostOrDomainIs,
+        "dnsDomainLevels" => PacFunction::DnsDomainLevels,
+        "dnsResolve" => PacFunction::DnsResolve,
+        "isResolvable" => PacFunction::IsResolvable,
+        "isInNet" => PacFunction::IsInNet,
+        "myIpAddress" => PacFunction::MyIpAddress,
+        "shExpMatch" => PacFunction::ShExpMatch,
+        "alert" => PacFunction::Alert,
+        "weekdayRange" => PacFunction::WeekdayRange,
+        "dateRange" => PacFunction::DateRange,
+        "timeRange" => PacFunction::TimeRange,
+        _ => bail!("no function {name}"),
+    })
+}
+
+fn values(alloc: Global, fields: &[&str]) -> Result<Vec<Value>> {
+    let mut all = Vec::new(alloc);
+    for sample in samples(alloc, fields)? {
+        all.push(match sample {
+            Sample::Undefined => Value::Undefined,
+            Sample::Null => Value::Null,
+            Sample::Truth(truth) => Value::Bool(truth),
+            Sample::Number(number) => Value::Number(number),
+            Sample::Text(text) => Value::Text(text),
+            Sample::Object(number) => Value::Object(ObjectId(number)),
+        })?;
+    }
+    Ok(all)
+}
+
+fn written(alloc: Global, answer: &PacAnswer) -> Result<String> {
+    match answer {
+        PacAnswer::Value(Value::Text(text)) => {
+            let text = written_text(alloc, text)?;
+            Ok(format!(in alloc; "'{}'", text.as_str())?)
+        }
+        PacAnswer::Value(value) => written_text(alloc, &to_text(alloc, value)?),
+        PacAnswer::Missing(name) => Ok(format!(in alloc; "missing {}", name_text(name)?)?),
+        PacAnswer::TooMany => Ok(String::from_str(alloc, "too many")?),
+        PacAnswer::Memory => bail!("want of memory"),
+    }
+}
+
+fn name_text(name: &LookupName) -> Result<&str> {
+    Ok(std::str::from_utf8(name.bytes())?)
+}

@@ -1,0 +1,32 @@
+-- What the code answers, beside what a call is over the host.
+use Rattle.std.specs.Prelude.{◌≡◌, ℕ, Option, Result, Ok, Err}
+use Rattle.heap_values.specs.declared.value.Value.{Value}
+use Rattle.js_host.specs.Seen.{Seen}
+use Rattle.run_trees.specs.RunTree.{RunTree, Walked, Ended, Stopped, walk}
+use Rattle.pac_functions.specs.declared.call.PacAnswer.{PacAnswer}
+use Rattle.pac_functions.specs.declared.call.PacAnswer.TheVariants as answer
+use Rattle.pac_functions.specs.declared.call.Stop.{Stop}
+use Rattle.pac_functions.specs.declared.call.Stop.TheVariants as stop
+use Rattle.pac_functions.specs.Addresses.{PacEnd, Gives, AsksTooMany, AfterAddress}
+
+-- a value, a name that the host lacks, or one name too many, each exactly where the call comes to it, with the host's
+-- record then; want of memory promises nothing
+abbrev pub Answers : Walked PacEnd → PacAnswer → Seen → Type 0
+Answers walked (answer.Value v) after = walked ≡ Ended (Gives v) after
+Answers walked (answer.Missing name) after = walked ≡ Stopped name after
+Answers walked answer.TooMany after = walked ≡ Ended AsksTooMany after
+Answers walked answer.Memory after = Unit {0}
+
+-- the same of a value or why there is none
+abbrev pub Comes : Walked PacEnd → Result Value Stop → Seen → Type 0
+Comes walked (Ok v) after = walked ≡ Ended (Gives v) after
+Comes walked (Err (stop.Missing name)) after = walked ≡ Stopped name after
+Comes walked (Err stop.TooMany) after = walked ≡ Ended AsksTooMany after
+Comes walked (Err stop.Memory) after = Unit {0}
+
+-- The same of an address, whatever comes after it: with the address what comes after goes on, and else it doesn't come.
+abbrev pub Resolves : (AfterAddress → RunTree PacEnd) → Seen → Result (Option ℕ) Stop → Seen → Type 0
+Resolves ask before (Ok address) after = (next : AfterAddress) → walk (ask next) before ≡ walk (next address) after
+Resolves ask before (Err (stop.Missing name)) after = (next : AfterAddress) → walk (ask next) before ≡ Stopped name after
+Resolves ask before (Err stop.TooMany) after = (next : AfterAddress) → walk (ask next) before ≡ Ended AsksTooMany after
+Resolves ask before (Err stop.Memory) after = Unit {0}

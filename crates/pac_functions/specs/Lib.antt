@@ -1,0 +1,5 @@
+pub mod Texts
+pub mod Addresses
+pub mod Call
+pub mod Comes
+pub mod Examples
