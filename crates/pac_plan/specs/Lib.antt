@@ -4,3 +4,4 @@ pub mod Follows
 pub mod Complete
 pub mod Order
 pub mod Serves
+pub mod OutputView

@@ -5,6 +5,8 @@
 //! pac_ports, whose states it speaks of.
 #![tactic(auto)]
 
+mod output;
 mod status;
 
+pub use output::{Output, line};
 pub use status::Status;
