@@ -1,0 +1,93 @@
+-- One name at the start.
+use Rattle.std.proofs.Common.{◌≡◌, ℕ, List, [], ◌∷◌, ◌++◌, map, Option, Some, None, IsTrue, refl, sym, ◌∙◌, ap, subst, arith}
+use Rattle.std.specs.List.{cons_option}
+use Rattle.std.proofs.lemmas.List.Elements.{All-cons, All-nil}
+use Rattle.pac_names.specs.declared.answer.Answer.{Answer}
+use Rattle.pac_names.specs.Names.{is_lookup_name}
+use Rattle.pac_ports.specs.Dice.{DiceTold, Gave}
+use Rattle.poll_log.specs.declared.question.Question.{Question}
+use Rattle.poll_log.specs.declared.terms.Terms.{Terms}
+use Rattle.poll_log.specs.declared.terms.TheConstants.{NAMES}
+use Rattle.poll_log.specs.Turns.{Begin}
+use Rattle.poll_log.specs.Beats.{last_stretch, stretches}
+use Rattle.poll_log.specs.Questions.{IsQuestion, asked_in, octets_of, names_of, new_among}
+use Rattle.poll_log.specs.Told.{told}
+use Rattle.poll_log.specs.Jobs.{once, wanted}
+use Rattle.poll_log.specs.Laws.{AsksInOrder, IsRestartable, lacking_or, only_behind}
+use Rattle.poll_log.proofs.Asking.{asked_in-octets}
+use Rattle.poll_log.proofs.Names.{none_some, once-new}
+use Rattle.poll_log.proofs.Dues.{owed_begin}
+use Rattle.poll_log.proofs.Orders.{runs_restartable}
+use Rattle.poll_log.proofs.TurnLaws.{firsts-begin, told-begin}
+use Rattle.stub_poller.specs.State.{asking, new_stub}
+use Rattle.stub_poller.specs.Ready.{AreTerms}
+use Rattle.stub_poller.specs.Driven.{asking_all, driven}
+use Rattle.pac_plan.specs.Plan.{Outside}
+use Rattle.poll_loop.specs.Task.{AsksLookupNames, IsSound}
+use Rattle.poll_loop.specs.Numbers.{GaveAll}
+use Rattle.poll_loop.specs.Steps.{Began}
+use Rattle.pac_ask.specs.Task.{job_of, task_of}
+use Rattle.pac_ask.specs.Standing.{Stands}
+use Rattle.pac_ask.specs.OneName.{StandsFor, new_one}
+use Rattle.pac_ask.specs.declared.one_name.OneName.{OneName}
+
+first_alone : (q : Question) → IsQuestion q → new_among [] (asked_in (octets_of q ∷ [])) ≡ q ∷ []
+unfolding new_among
+first_alone q p = ap (new_among []) (asked_in-octets (q ∷ []) (All-cons IsQuestion q [] p (All-nil IsQuestion)))
+
+-- the first question is sent
+pub stands_begin : (t : Terms) (q : Question) → AreTerms t → IsQuestion q → Stands q.name None t (asking q (new_stub t)) 0 (task_of t q.name) (Begin (octets_of q ∷ []))
+unfolding driven last_stretch stretches
+stands_begin t q w p =
+    record {
+      same = refl;
+      ranges = w;
+      named = p.name;
+      asked = ap names_of (firsts-begin (octets_of q ∷ []) ∙ first_alone q p);
+      sends = owed_begin t (job_of q.name ∷ []) w.waits w.tried (q ∷ []) asks (All-cons IsQuestion q [] p (All-nil IsQuestion));
+      flying = ap (λ qs. asking_all qs (new_stub t)) (sym (first_alone q p));
+      answered = sym (told-begin t (octets_of q ∷ []) q.name);
+      since = refl;
+    }
+  where
+    asks : names_of (q ∷ []) ≡ once [] (wanted (job_of q.name ∷ []) (told t (Begin (map octets_of (q ∷ [])))))
+    asks = sym (ap (λ m. once [] (cons_option (lacking_or q.name m None) [])) (told-begin t (octets_of q ∷ []) q.name) ∙ once-new [] q.name refl)
+
+in_order : (name : List ℕ) → AsksInOrder NAMES (λ map. name ∷ [])
+in_order name =
+    record {
+      done = λ larger smaller x e. refl;
+      agrees = λ larger smaller n x e. ([], go (smaller name));
+      within = λ map. (omega arith);
+    }
+  where
+    go : (m : Option Answer) → name ∷ [] ≡ (name ∷ only_behind m []) ++ []
+    go None = refl
+    go (Some x) = refl
+
+pub sound : (t : Terms) (name : List ℕ) → AreTerms t → IsTrue (is_lookup_name name) → IsSound (task_of t name)
+sound t name w named =
+    record {
+      terms = record { waits = w.waits; tried = w.tried };
+      named = All-cons AsksLookupNames (job_of name) [] (λ answers n e. go (answers name) n e) (All-nil AsksLookupNames);
+      restartable = All-cons (IsRestartable NAMES) (job_of name) [] (runs_restartable NAMES (λ map. name ∷ []) (in_order name)).law (All-nil (IsRestartable NAMES));
+      unsent_runs = λ turns sent. refl;
+    }
+  where
+    go : (m : Option Answer) (n : List ℕ) → lacking_or name m None ≡ Some n → IsTrue (is_lookup_name n)
+    go None n e = let same : name ≡ n = cc in subst (λ x. IsTrue (is_lookup_name x)) same named
+    go (Some x) n e = none_some n e
+
+-- polling begins
+pub began : (t : Terms) (q : Question) (one : OneName) (question : Question) (old : Outside) (dice : Option DiceTold) → AreTerms t → IsQuestion q → Gave old.dice q.id dice → one ≡ new_one t q → question ≡ q → Began (StandsFor one (task_of t q.name)) (task_of t q.name) (octets_of question ∷ []) old dice old.runs
+began t q one question old dice w p gave e f =
+    let s = stands_begin t q w p in
+    subst (λ x. Began (StandsFor x (task_of t q.name)) (task_of t q.name) (octets_of question ∷ []) old dice old.runs) (sym e)
+    (subst (λ x. Began (StandsFor (new_one t q) (task_of t q.name)) (task_of t q.name) (octets_of x ∷ []) old dice old.runs) (sym f)
+    (record {
+      sound = sound t q.name w p.name;
+      stands = s;
+      owed = s.sends;
+      drew = subst (λ l. GaveAll old.dice (map (λ r. r.id) l) dice) (sym (firsts-begin (octets_of q ∷ []) ∙ first_alone q p)) (dice, gave, refl);
+      ran = omega arith;
+    }))

@@ -1,0 +1,41 @@
+-- What `ask` does.
+use Rattle.std.specs.Prelude.{ℕ, ◌/◌, ◌%◌, List, ◌++◌, ◌∷◌, Option, Some, None, codes}
+use Rattle.std.specs.Fmt.{decimal}
+use Rattle.pac_names.specs.declared.answer.Answer.{Answer}
+use Rattle.pac_names.specs.declared.answer.Answer.TheVariants as answer
+use Rattle.pac_names.specs.Names.{lookup_name_of}
+use Rattle.pac_names.specs.Quads.{quad_of}
+use Rattle.poll_log.specs.Turns.{turns_of}
+use Rattle.poll_log.specs.Told.{told}
+use Rattle.pac_plan.specs.Plan.{Output, Plan, line, say, talk}
+use Rattle.pac_plan.specs.declared.status.Status.TheVariants as status
+use Rattle.poll_loop.specs.Task.{Talk}
+use Rattle.poll_loop.specs.declared.looping.Asking.{Asking}
+use Rattle.pac_ask.specs.Task.{talk_of}
+
+-- the octets of an address, the first one highest, parted by dots (46)
+abbrev pub quad_text : ℕ → List ℕ
+quad_text address = decimal (address / 16777216) ++ 46 ∷ decimal (address / 65536 % 256) ++ 46 ∷ decimal (address / 256 % 256) ++ 46 ∷ decimal (address % 256)
+
+abbrev pub answered : Answer → Output
+answered (answer.Address address) = record { status = status.Good; text = line (codes "address " ++ quad_text address) }
+answered answer.NoAddress = record { status = status.Good; text = line (codes "no address") }
+
+-- a name that nothing is told of is unanswered
+abbrev pub told_output : List ℕ → Option Answer → Output
+told_output name (Some told) = answered told
+told_output name None = record { status = status.Unanswered; text = line (codes "unanswered " ++ name) }
+
+-- asks for the name, if there is one, and else nobody
+abbrev pub name_plan : Asking → Option (List ℕ) → Plan Talk
+name_plan asking None = say (answered answer.NoAddress)
+name_plan asking (Some name) = talk (talk_of asking.server asking.terms name) (λ log. told_output name (told asking.terms (turns_of log) name))
+
+-- an address already needs nobody
+abbrev pub address_plan : Asking → Option ℕ → Option (List ℕ) → Plan Talk
+address_plan asking (Some address) name = say (answered (answer.Address address))
+address_plan asking None name = name_plan asking name
+
+-- a dotted quad is an address already; four groups of digits that are none, and what is no lookup name, have no address
+abbrev pub ask_plan : Asking → List ℕ → Plan Talk
+ask_plan asking text = address_plan asking (quad_of text) (lookup_name_of text)

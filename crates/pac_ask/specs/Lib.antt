@@ -1,0 +1,5 @@
+pub mod Task
+pub mod Standing
+pub mod OneName
+pub mod Talks
+pub mod Ask

@@ -1,0 +1,120 @@
+// `ask`: the address of one name.
+ghost use Rattle.std.specs.Prelude.{◌≡◌, IfOk, None, Some, string_bytes};
+ghost use Rattle.utf16_text.specs.Decode.{utf16_units};
+ghost use Rattle.pac_plan.specs.Plan.{Outside, talk};
+ghost use Rattle.pac_plan.specs.Follows.{Follows, IsUnlessMemory};
+ghost use Rattle.pac_plan.specs.OutputView.{made};
+ghost use Rattle.stub_poller.specs.Ready.{AreTerms};
+ghost use Rattle.pac_ask.specs.Ask as plan;
+ghost use Rattle.pac_ask.specs.Talks.{talks};
+
+use crate::one_name::OneName;
+use pac_names::{Answer, LookupName, lookup_name, quad};
+use pac_plan::{Output, Status, line};
+use pac_ports::{Dice, Link};
+use poll_loop::{Asking, Stop, poll};
+use std::alloc::Global;
+use std::sync::ledger::Ledger;
+use step_counter::Steps;
+use utf16_text::{Memory, Text};
+
+/// Asks for the address of the name that the word spells. An address, and what is no name, asks nobody.
+pub fn ask<N: Link, D: Dice, L: Ledger>(
+    alloc: Global,
+    word: &str,
+    asking: Asking,
+    link: &mut N,
+    dice: &mut D,
+    runs: &mut Steps<L>,
+) -> Result<Output, Memory>
+    requires { AreTerms asking.terms }
+    ensures { (o : Outside) → Follows talks (plan.ask_plan asking (utf16_units word.now))
+        (record o { link = N.state link.old; dice = D.told dice.old; runs = runs.old })
+        (record o { link = N.state link.new; dice = D.told dice.new; runs = runs.new }) (made result) }
+{
+    let Ok(text) = Text::from_str(alloc, word) else {
+        return Err(Memory);
+    };
+    if let Some(address) = quad(&text) {
+        return answered(alloc, Answer::Address(address));
+    }
+    match lookup_name(&text) {
+        Some(name) => ask_name(alloc, name, asking, link, dice, runs),
+        None => answered(alloc, Answer::NoAddress),
+    }
+}
+
+// The same with the name.
+fn ask_name<N: Link, D: Dice, L: Ledger>(
+    alloc: Global,
+    name: LookupName,
+    asking: Asking,
+    link: &mut N,
+    dice: &mut D,
+    runs: &mut Steps<L>,
+) -> Result<Output, Memory>
+    requires { AreTerms asking.terms }
+    ensures { (o : Outside) → Follows talks (plan.name_plan asking (Some name))
+        (record o { link = N.state link.old; dice = D.told dice.old; runs = runs.old })
+        (record o { link = N.state link.new; dice = D.told dice.new; runs = runs.new }) (made result) }
+{
+    let id = dice.id();
+    let Ok(begun) = OneName::start(alloc, name, asking.terms, id) else {
+        return Err(Memory);
+    };
+    let (mut one, question) = begun;
+    match poll(alloc, &mut one, &[question], asking, link, dice, runs) {
+        Ok(()) => told(alloc, &one.name, one.answer),
+        Err(Stop::Link) => line(alloc, Status::LinkFault, "fault link", "", ""),
+        Err(Stop::Memory) => Err(Memory),
+    }
+}
+
+// What is said of the name.
+fn told(alloc: Global, name: &LookupName, answer: Option<Answer>) -> Result<Output, Memory>
+    ensures { IsUnlessMemory (plan.told_output name.now answer) (made result) }
+{
+    match answer {
+        Some(answer) => answered(alloc, answer),
+        None => unanswered(alloc, name),
+    }
+}
+
+fn unanswered(alloc: Global, name: &LookupName) -> Result<Output, Memory>
+    ensures { IsUnlessMemory (plan.told_output name.now None) (made result) }
+{
+    let mut text = Vec::new(alloc);
+    text.extend_from_slice(b"unanswered ")?;
+    text.extend_from_slice(name.bytes())?;
+    text.push(b'\n')?;
+    Ok(Output {
+        status: Status::Unanswered,
+        text,
+    })
+}
+
+fn answered(alloc: Global, answer: Answer) -> Result<Output, Memory>
+    ensures { IsUnlessMemory (plan.answered answer) (made result) }
+{
+    match answer {
+        Answer::Address(address) => line(
+            alloc,
+            Status::Good,
+            "address ",
+            &quad_text(alloc, address)?,
+            "",
+        ),
+        Answer::NoAddress => line(alloc, Status::Good, "no address", "", ""),
+    }
+}
+
+// The octets of an address, parted by dots.
+fn quad_text(alloc: Global, address: u32) -> Result<String, Memory>
+    ensures { IfOk result (λ text. string_bytes text ≡ plan.quad_text address) }
+{
+    let first = address / 16_777_216;
+    let second = address / 65_536 % 256;
+    let third = address / 256 % 256;
+    let fourth = address % 256;
+    Ok(format!(in alloc; "{first}.{second}.{third}.{fourth}")?)
+}

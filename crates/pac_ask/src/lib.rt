@@ -1,0 +1,9 @@
+//! `ask`: the address of one name, from a server over a link.
+//!
+//! `specs/Ask.antt` is its plan. The loop is that of poll_loop, driven by a stub of stub_poller with one question.
+#![tactic(auto)]
+
+mod asking;
+mod one_name;
+
+pub use asking::ask;

@@ -1,0 +1,133 @@
+// One name that is waited for.
+ghost use Rattle.std.specs.Prelude.{◌≡◌, IfOk, OnOk};
+ghost use Rattle.poll_log.specs.Questions.{IsQuestion};
+ghost use Rattle.poll_loop.specs.Events.{event_of};
+ghost use Rattle.stub_poller.specs.State.{beaten, resent};
+ghost use Rattle.stub_poller.specs.Ready.{AreTerms};
+ghost use Rattle.pac_ask.specs.OneName.{beats_after, counted, hearing, new_one, received};
+
+use pac_names::{Answer, LookupName};
+use pac_ports::Dice;
+use poll_log::{FLOOD, Question, Terms};
+use poll_loop::{Event, Poller};
+use std::alloc::Global;
+use std::sync::ledger::Ledger;
+use step_counter::Steps;
+use stub_poller::Stub;
+use utf16_text::Memory;
+
+/// One name that is waited for: its question in flight, or its answer.
+#[derive(Drop)]
+pub(crate) struct OneName {
+    pub(crate) name: LookupName,
+    pub(crate) answer: Option<Answer>,
+    terms: Terms,
+    stub: Stub,
+    // since the last tick or the last beat
+    datagrams: u64,
+}
+
+impl OneName {
+    /// Waits for the name, and gives the question that is to be sent first.
+    pub(crate) fn start(
+        alloc: Global,
+        name: LookupName,
+        terms: Terms,
+        id: u16,
+    ) -> Result<(OneName, Question), Memory>
+        requires terms { AreTerms terms }
+        ensures one { IfOk result (λ begun. begun.0 ≡ new_one terms (record { id = id; name = name })) }
+        ensures question { IfOk result (λ begun. begun.1 ≡ record { id = id; name = name }) }
+        ensures proper { IfOk result (λ begun. IsQuestion begun.1) }
+    {
+        let mut stub = Stub::new(alloc, terms.wait, terms.tries);
+        let question = stub.ask(alloc, name.copy(), id)?;
+        let one = OneName {
+            name,
+            answer: None,
+            terms,
+            stub,
+            datagrams: 0,
+        };
+        Ok((one, question))
+    }
+
+    // Takes the answer that the datagram gives, where it gives one.
+    fn receive(&mut self, datagram: &[u8])
+        ensures { self.new ≡ received datagram.now self.old }
+    {
+        if let Some((_, answer)) = self.stub.on_datagram(datagram) {
+            self.answer = Some(answer);
+        }
+    }
+
+    // Hears an event.
+    fn hear(&mut self, event: Event<'_>)
+        ensures { self.new ≡ hearing (event_of event.entry) self.old }
+    {
+        match event {
+            Event::Datagram(datagram) => self.receive(datagram),
+            Event::Tick => {}
+        }
+    }
+
+    // Whether the event is a beat.
+    fn counts_beat(&mut self, event: Event<'_>) -> bool
+        ensures beat { result ≡ beats_after (event_of event.entry) self.old }
+        ensures counted { self.new ≡ counted (event_of event.entry) self.old }
+    {
+        match event {
+            Event::Datagram(_) if self.datagrams < FLOOD - 1 => {
+                self.datagrams += 1;
+                false
+            }
+            _ => {
+                self.datagrams = 0;
+                true
+            }
+        }
+    }
+
+    // A beat: what is to be sent again.
+    fn beat(&mut self, alloc: Global) -> Result<Vec<Question>, Memory>
+        ensures again { IfOk result (λ again. again.items ≡ resent self.old.stub) }
+        ensures kept { OnOk result (self.new ≡ record self.old { stub = beaten self.old.stub }) }
+    {
+        copies(alloc, &self.stub.on_beat().resend)
+    }
+}
+
+fn copies(alloc: Global, questions: &[Question]) -> Result<Vec<Question>, Memory>
+    ensures { IfOk result (λ copies. copies.items ≡ questions.now) }
+{
+    let mut copies = Vec::new(alloc);
+    for question in questions {
+        copies.push(question.copy())?;
+    }
+    Ok(copies)
+}
+
+impl Poller for OneName {
+    ghost use Rattle.pac_ask.specs.OneName.{StandsFor};
+
+    ghost stands = { λ one task turns. StandsFor one task turns };
+
+    fn ended(&self) -> bool {
+        self.answer.is_some() || self.stub.is_dead(&self.name)
+    }
+
+    fn step<D: Dice, L: Ledger>(
+        &mut self,
+        alloc: Global,
+        event: Event<'_>,
+        _dice: &mut D,
+        _runs: &mut Steps<L>,
+    ) -> Result<Vec<Question>, Memory> {
+        self.hear(event);
+        if !self.counts_beat(event) {
+            return Ok(Vec::new(alloc));
+        }
+        let again = self.beat(alloc)?;
+        Ok(again)
+    }
+}
