@@ -1,0 +1,63 @@
+// What the words ask for.
+ghost use Rattle.std.specs.Prelude.{◌<◌, ◌≤◌};
+
+use pac_ports::Server;
+
+/// Where and how often a name is asked for.
+#[derive(Clone, Copy)]
+pub struct Asking {
+    pub server: Server,
+    /// Beats from one sending to the next.
+    pub wait: u32,
+    pub tries: u32,
+    ghost waits: { 0 < wait },
+    ghost wait_within: { wait ≤ 1000 },
+    ghost tried: { 0 < tries },
+    ghost tries_within: { tries ≤ 8 },
+}
+
+/// What a run of the script has.
+#[derive(Clone, Copy)]
+pub struct Running {
+    pub fuel: u64,
+    pub my_ip: u32,
+    /// Minutes east of UTC.
+    pub zone: i32,
+    /// The moment, where it isn't the clock's.
+    pub now: Option<u64>,
+}
+
+/// One URL, or a file of many.
+#[derive(Clone, Copy)]
+pub enum Source<'a> {
+    Url(&'a str),
+    Batch(&'a str),
+}
+
+/// A command with its arguments.
+#[derive(Clone, Copy)]
+pub enum Command<'a> {
+    Resolve {
+        script: &'a str,
+        from: Source<'a>,
+        asking: Asking,
+        running: Running,
+    },
+    Map {
+        names: &'a str,
+        script: &'a str,
+        from: Source<'a>,
+        running: Running,
+    },
+    Check {
+        script: &'a str,
+    },
+    Ask {
+        name: &'a str,
+        asking: Asking,
+    },
+    Generate {
+        seed: u64,
+        sites: u64,
+    },
+}

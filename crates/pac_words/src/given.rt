@@ -1,0 +1,125 @@
+// The commands from their matches.
+
+ghost use Rattle.std.specs.Prelude.{◌≡◌, codes, option_map};
+ghost use Rattle.pac_words.specs.Commands.{asking_of, running_of, resolve_of, map_of, check_of, ask_of, generate_of, source_from, now_of, number_given};
+ghost use Rattle.pac_words.specs.Views.{asking_view, running_view, source_view, command_view, given_in};
+
+use crate::command::{Asking, Command, Running, Source};
+use crate::number::{number, number_or};
+use crate::parse::value;
+use crate::quad::{LOCAL, quad_or, server_or};
+use crate::zone::zone_or;
+use clap::ArgMatches;
+
+// The moment of an option `--now`; the inner None is the clock's.
+fn moment(text: Option<&str>) -> Option<Option<u64>>
+    ensures { result ≡ now_of (option_map (λ t. t.now) text.entry) }
+{
+    match text {
+        None => Some(None),
+        Some(text) => match number(text, 0, 253_370_764_799) {
+            None => None,
+            Some(now) => Some(Some(now)),
+        },
+    }
+}
+
+fn source<'a>(url: Option<&'a str>, batch: Option<&'a str>) -> Option<Source<'a>>
+    ensures { option_map source_view result ≡ source_from (option_map (λ t. t.now) url.entry) (option_map (λ t. t.now) batch.entry) }
+{
+    match (url, batch) {
+        (Some(url), None) => Some(Source::Url(url)),
+        (None, Some(file)) => Some(Source::Batch(file)),
+        _ => None,
+    }
+}
+
+fn number_given(text: Option<&str>, low: u64, high: u64) -> Option<u64>
+    ensures { result ≡ number_given low high (option_map (λ t. t.now) text.entry) }
+{
+    match text {
+        None => None,
+        Some(text) => number(text, low, high),
+    }
+}
+
+fn asking(matches: &ArgMatches<'_>) -> Option<Asking>
+    ensures { option_map asking_view result ≡ asking_of (given_in matches.now) }
+{
+    let server = server_or(value(matches, "server"))?;
+    let wait = number_or(value(matches, "wait"), 10, 1, 1000)?;
+    let tries = number_or(value(matches, "tries"), 4, 1, 8)?;
+    Some(Asking {
+        server,
+        wait: wait as u32,
+        tries: tries as u32,
+    })
+}
+
+fn running(matches: &ArgMatches<'_>) -> Option<Running>
+    ensures { option_map running_view result ≡ running_of (given_in matches.now) }
+{
+    let fuel = number_or(value(matches, "fuel"), 10_000_000, 1, 1_000_000_000)?;
+    let my_ip = quad_or(value(matches, "my-ip"), LOCAL)?;
+    let zone = zone_or(value(matches, "zone"))?;
+    let now = moment(value(matches, "now"))?;
+    Some(Running {
+        fuel,
+        my_ip,
+        zone,
+        now,
+    })
+}
+
+pub(crate) fn resolve<'a>(matches: &ArgMatches<'a>) -> Option<Command<'a>>
+    ensures { option_map command_view result ≡ resolve_of (given_in matches.now) }
+{
+    let script = value(matches, "script")?;
+    let from = source(value(matches, "url"), value(matches, "batch"))?;
+    let asking = asking(matches)?;
+    let running = running(matches)?;
+    Some(Command::Resolve {
+        script,
+        from,
+        asking,
+        running,
+    })
+}
+
+pub(crate) fn map<'a>(matches: &ArgMatches<'a>) -> Option<Command<'a>>
+    ensures { option_map command_view result ≡ map_of (given_in matches.now) }
+{
+    let names = value(matches, "names")?;
+    let script = value(matches, "script")?;
+    let from = source(value(matches, "url"), value(matches, "batch"))?;
+    let running = running(matches)?;
+    Some(Command::Map {
+        names,
+        script,
+        from,
+        running,
+    })
+}
+
+pub(crate) fn check<'a>(matches: &ArgMatches<'a>) -> Option<Command<'a>>
+    ensures { option_map command_view result ≡ check_of (given_in matches.now) }
+{
+    let script = value(matches, "script")?;
+    Some(Command::Check { script })
+}
+
+pub(crate) fn ask<'a>(matches: &ArgMatches<'a>) -> Option<Command<'a>>
+    ensures { option_map command_view result ≡ ask_of (given_in matches.now) }
+{
+    let name = value(matches, "name")?;
+    let asking = asking(matches)?;
+    Some(Command::Ask { name, asking })
+}
+
+pub(crate) fn generate<'a>(matches: &ArgMatches<'a>) -> Option<Command<'a>>
+    ensures { option_map command_view result ≡ generate_of (given_in matches.now) }
+{
+    let seed = number_given(value(matches, "seed"), 0, 4_294_967_295)?;
+    let sites = number_given(value(matches, "sites"), 1, 256)?;
+    Some(Command::Generate { seed, sites })
+}

@@ -1,0 +1,17 @@
+//! The words of the command line: which command they give, with which arguments.
+//!
+//! clap reads the words behind a command's name; that it reads them by the rules of `specs/Rules.antt`, for every table of
+//! options and positionals, is proved. The values are read here. It stands on clap, and on pac_ports for servers.
+#![tactic(auto)]
+
+mod command;
+mod given;
+mod number;
+mod parse;
+mod parsers;
+mod quad;
+mod words;
+mod zone;
+
+pub use command::{Asking, Command, Running, Source};
+pub use words::read_words;
