@@ -1,0 +1,7 @@
+//! The link over UDP beside a peer on loopback, and dice.
+//!
+//! It has tests alone, and stands on pac_net.
+#![tactic(auto)]
+
+#[cfg(test)]
+mod tests;

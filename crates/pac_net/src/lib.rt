@@ -1,0 +1,11 @@
+//! The network as the program sees it: a link over a UDP socket, and numbers of questions that are hard to foresee.
+//!
+//! The adapters are a few lines each and tell nothing: that a socket gives what a peer sent is the machine's matter. It
+//! stands on pac_ports, whose traits they meet.
+#![tactic(auto)]
+
+mod random_dice;
+mod udp_link;
+
+pub use random_dice::RandomDice;
+pub use udp_link::UdpLink;
