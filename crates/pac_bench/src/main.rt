@@ -7,6 +7,7 @@
 mod heap;
 mod lexing;
 mod messages;
+mod scopes;
 
 use anyhow::{Result, bail};
 use std::env;
@@ -14,12 +15,13 @@ use std::env;
 fn main(rt: HostRuntime) -> Result<()> {
     let words: Vec<String> = env::args(&rt)?.collect(rt.alloc())?;
     let [_program, part, words @ ..] = words.as_slice() else {
-        bail!("usage: pac_bench lexing|heap|messages WORD..");
+        bail!("usage: pac_bench lexing|heap|messages|scopes WORD..");
     };
     match part.as_str() {
         "lexing" => lexing::run(&rt, words),
         "heap" => heap::run(&rt, words),
         "messages" => messages::run(&rt, words),
-        _ => bail!("lexing, heap or messages"),
+        "scopes" => scopes::run(&rt, words),
+        _ => bail!("lexing, heap, messages or scopes"),
     }
 }

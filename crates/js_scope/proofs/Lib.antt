@@ -1,0 +1,4 @@
+pub mod Fitting
+pub mod Numbering
+pub mod Passing
+pub mod Trees

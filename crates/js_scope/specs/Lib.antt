@@ -1,0 +1,4 @@
+pub mod Functions
+pub mod Gives
+pub mod Nested
+pub mod Parts
