@@ -1,5 +1,5 @@
-//! What scripts are handed: shell expressions, ranges of weekdays, dates and times, the functions over a host, and what a
-//! script sees of a URL. A table of calls with their answers.
+//! What scripts are handed: shell expressions, ranges of weekdays, dates and times, the functions over a host, what a script
+//! sees of a URL, and files of names. A table of calls with their answers.
 //!
 //! The cases are those of the page on the Netscape Navigator Proxy Auto-Config format, those of the URL Standard, and
 //! those in which docs/ decides what they leave open. It reads them from its input, and stands on pac_match,
@@ -8,6 +8,7 @@
 
 mod clocks;
 mod functions;
+mod names;
 mod ranges;
 mod urls;
 
@@ -31,6 +32,8 @@ fn answer(alloc: Global, part: &str, fields: &[&str]) -> Result<String> {
         "zones" => clocks::seconds(alloc, fields),
         "calls" => functions::called(alloc, fields),
         "calls after other names" => functions::called_late(alloc, fields),
+        "files of names" => names::told(alloc, fields),
+        "long files of names" => names::told_behind(alloc, fields),
         "urls" => urls::seen(alloc, fields),
         "long urls" => urls::length(alloc, fields),
         _ => bail!("no part {part}"),

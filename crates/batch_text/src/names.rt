@@ -1,0 +1,125 @@
+// Files of names.
+ghost use Rattle.std.specs.Prelude.{◌≡◌, ◌≤◌, IfOk, length};
+ghost use Rattle.std.specs.Str.{is_utf8};
+ghost use Rattle.pac_names.specs.Names.{lookup_name_of};
+ghost use Rattle.batch_text.specs.Names.{ReadsNames, names_in, answer_of, line_of, text_line};
+ghost use Rattle.batch_text.specs.Entering.{Enters, said};
+
+use crate::lines::{rest, says_nothing, word};
+use answer_table::AnswerTable;
+use bstr::ByteSlice;
+use pac_names::{Answer, LookupName, quad};
+use std::alloc::Global;
+use utf16_text::{Memory, Text};
+
+/// Why a line of a file of names is refused.
+#[derive(Clone, Copy, Debug, PartialEq, Eq)]
+pub enum NamesKind {
+    /// It is no UTF-8, or not a lookup name, blanks, and a dotted quad or `-`.
+    BadLine,
+    /// Its name stands in an earlier line.
+    Twice,
+}
+
+/// Why a file of names gives no answers.
+#[derive(Clone, Copy, Debug, PartialEq, Eq)]
+pub enum NamesAnswer {
+    /// The first line that is refused, by its number from 1.
+    Refused(NamesKind, u32),
+    Memory,
+}
+
+impl From<Memory> for NamesAnswer {
+    ghost use Rattle.std.specs.Prelude.{◌≡◌};
+    ghost use Rattle.batch_text.specs.declared.names.NamesAnswer.TheVariants as answer;
+
+    ghost from_gives = { λ _ e. e ≡ answer.Memory };
+
+    fn from(_: Memory) -> NamesAnswer {
+        NamesAnswer::Memory
+    }
+}
+
+/// What a line says.
+#[derive(Drop)]
+enum Line {
+    Nothing,
+    Entry(LookupName, Answer),
+    Bad,
+}
+
+/// The answers that a file tells, in each line a lookup name, blanks, and a dotted quad or `-` for no address. A line
+/// that is blank or begins with `#` says nothing.
+pub fn read_names(alloc: Global, bytes: &[u8]) -> Result<AnswerTable, NamesAnswer>
+    requires { length bytes.now ≤ 1048576 }
+    ensures { ReadsNames result (names_in bytes.now) }
+{
+    let mut table = AnswerTable::new(alloc);
+    let mut number = 0_u32;
+    for line in bytes.lines() {
+        number += 1;
+        enter(alloc, &mut table, line, number)?;
+    }
+    Ok(table)
+}
+
+/// Takes what a line says into the table.
+fn enter(
+    alloc: Global,
+    table: &mut AnswerTable,
+    line: &[u8],
+    number: u32,
+) -> Result<(), NamesAnswer>
+    ensures { Enters table.old (line_of line.now) number result table.new }
+{
+    match line_of(alloc, line)? {
+        Line::Nothing => Ok(()),
+        Line::Bad => Err(NamesAnswer::Refused(NamesKind::BadLine, number)),
+        Line::Entry(name, answer) => {
+            if table.get(&name).is_some() {
+                return Err(NamesAnswer::Refused(NamesKind::Twice, number));
+            }
+            table.insert(alloc, name, answer)?;
+            Ok(())
+        }
+    }
+}
+
+fn line_of(alloc: Global, line: &[u8]) -> Result<Line, Memory>
+    ensures { IfOk result (λ l. said l ≡ line_of line.now) }
+{
+    if is_text(line) {
+        text_line(alloc, line)
+    } else {
+        Ok(Line::Bad)
+    }
+}
+
+fn is_text(line: &[u8]) -> bool
+    ensures { result ≡ is_utf8 line.now }
+{
+    line.is_utf8()
+}
+
+fn text_line(alloc: Global, line: &[u8]) -> Result<Line, Memory>
+    ensures { IfOk result (λ l. said l ≡ text_line line.now) }
+{
+    if says_nothing(line) {
+        return Ok(Line::Nothing);
+    }
+    let answer = answer_of(alloc, rest(line))?;
+    match (LookupName::from_bytes(word(line)), answer) {
+        (Some(name), Some(answer)) => Ok(Line::Entry(name, answer)),
+        _ => Ok(Line::Bad),
+    }
+}
+
+fn answer_of(alloc: Global, rest: &[u8]) -> Result<Option<Answer>, Memory>
+    ensures { IfOk result (λ answer. answer ≡ answer_of rest.now) }
+{
+    if rest == b"-".as_slice() {
+        return Ok(Some(Answer::NoAddress));
+    }
+    let text = Text::from_latin_1(alloc, rest)?;
+    Ok(quad(&text).map(Answer::Address))
+}
