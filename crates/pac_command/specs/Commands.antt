@@ -1,17 +1,32 @@
 -- What each command does.
-use Rattle.std.specs.Prelude.{Option, Some, None, codes}
+use Rattle.std.specs.Prelude.{ℕ, List, Option, Some, None, codes}
 use Rattle.pac_plan.specs.Plan.{Output, say, at_once, line}
 use Rattle.pac_plan.specs.declared.status.Status.TheVariants as status
+use Rattle.pac_words.specs.Commands.{Asked, Asking, Source, batch_file, asking, checking, generating, mapping, one_url, resolving}
+use Rattle.poll_loop.specs.declared.looping.Asking as loop
+use Rattle.pac_ask.specs.Ask.{ask_plan}
+use Rattle.utf16_text.specs.Decode.{utf16_units}
 use Rattle.pac_command.specs.Plans.{CommandProgram}
-use Rattle.pac_command.specs.Words.{Asked, resolve, check}
 use Rattle.pac_command.specs.Resolve.{resolve_plan}
 use Rattle.pac_command.specs.Check.{check_plan}
 
 abbrev pub usage : Output
 usage = record { status = status.Usage; text = line (codes "usage: pac resolve|map|check|ask|generate ARGUMENTS") }
 
--- what the words ask for; where they aren't read, the usage
+-- whom to ask, and how often
+abbrev pub asking_of : Asking → loop.Asking
+asking_of a = record { server = record { address = a.server.address; port = a.server.port }; terms = record { wait = a.wait; tries = a.tries } }
+
+-- one URL; a batch is faulty usage until it is built
+abbrev pub resolve_program : List ℕ → Source → CommandProgram
+resolve_program script (one_url url) = at_once (resolve_plan script url)
+resolve_program script (batch_file file) = at_once (say usage)
+
+-- What the words ask for; where they aren't read, the usage. So `map` and `generate` are until they are built.
 abbrev pub program_of : Option Asked → CommandProgram
 program_of None = at_once (say usage)
-program_of (Some (resolve script url)) = at_once (resolve_plan script url)
-program_of (Some (check script)) = at_once (check_plan script)
+program_of (Some (resolving script source how running)) = resolve_program script source
+program_of (Some (mapping names script source running)) = at_once (say usage)
+program_of (Some (checking script)) = at_once (check_plan script)
+program_of (Some (asking name how)) = at_once (ask_plan (asking_of how) (utf16_units name))
+program_of (Some (generating seed sites)) = at_once (say usage)

@@ -1,5 +1,3 @@
-pub mod Words
-pub mod CommandView
 pub mod Plans
 pub mod Scripts
 pub mod FirstUrl
@@ -7,4 +5,3 @@ pub mod UrlView
 pub mod Resolve
 pub mod Check
 pub mod Commands
-pub mod OutputView

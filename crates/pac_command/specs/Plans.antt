@@ -1,24 +1,12 @@
--- The plans of the commands.
+-- The plans of the commands. Their talks over the link are those of polling.
 use Rattle.std.specs.Prelude.{Option, Some, None, Result, Ok, Err}
 use Rattle.pac_ports.specs.Sink.{SinkState}
-use Rattle.pac_plan.specs.Plan.{Output, Plan, Program, Outside, Talks}
+use Rattle.pac_plan.specs.Plan.{Output, Plan, Program, Outside}
 use Rattle.pac_plan.specs.Follows as plans
 use Rattle.pac_plan.specs.Serves as served
 use Rattle.pac_plan.specs.declared.status.Status.{Status}
-
--- No command talks over the link yet. The talks of the first that does stand here, and nowhere else.
-abbrev pub Talk : Type 0
-Talk = ⊥
-
--- what the talks do
-abbrev pub talks : Talks Talk
-talks = record {
-  Talked = λ t old end log new. ⊥;
-  files_kept = λ t old end log new talked. absurd t;
-  clock_kept = λ t old end log new talked. absurd t;
-  counted = λ t old end log new talked. absurd t;
-  not_begun = λ t old. t;
-}
+use Rattle.poll_loop.specs.Task.{Talk}
+use Rattle.pac_ask.specs.Talks.{talks}
 
 abbrev pub CommandPlan : Type 0
 CommandPlan = Plan Talk

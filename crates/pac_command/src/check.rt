@@ -6,14 +6,15 @@ ghost use Rattle.pac_plan.specs.Plan.{Outside};
 ghost use Rattle.pac_plan.specs.Follows.{IsUnlessMemory};
 ghost use Rattle.pac_command.specs.Plans.{Follows};
 ghost use Rattle.pac_command.specs.Check.{check_plan, checked};
-ghost use Rattle.pac_command.specs.OutputView.{made};
+ghost use Rattle.pac_plan.specs.OutputView.{made};
 
 use crate::Status;
-use crate::output::{Output, not_read, refused_script};
+use crate::output::{not_read, refused_script};
 use crate::script::{FILE_LIMIT, decoded};
 use js_parser::read_script;
 use js_printer::print;
 use js_tree::{ReadAnswer, Script};
+use pac_plan::Output;
 use pac_ports::Files;
 use std::alloc::Global;
 use utf16_text::Memory;

@@ -1,41 +1,16 @@
-// The output of a command, before it is written.
-ghost use Rattle.std.specs.Prelude.{◌≡◌, ◌++◌, ◌∷◌, []};
-ghost use Rattle.pac_plan.specs.Plan.{line};
+// What is said of inputs that are refused, and the report.
+ghost use Rattle.std.specs.Prelude.{◌≡◌};
 ghost use Rattle.pac_plan.specs.Follows.{IsUnlessMemory, Ends};
 ghost use Rattle.pac_command.specs.Resolve.{reported};
 ghost use Rattle.pac_command.specs.Scripts as scripts;
-ghost use Rattle.pac_command.specs.OutputView.{made};
+ghost use Rattle.pac_plan.specs.OutputView.{made};
 
 use crate::Status;
 use js_tree::{Place, ReadKind};
+use pac_plan::{Output, line};
 use pac_ports::FilesAnswer;
 use std::alloc::Global;
 use utf16_text::{Memory, Text};
-
-/// A status with the text that is to be written.
-#[derive(Drop)]
-pub(crate) struct Output {
-    pub(crate) status: Status,
-    pub(crate) text: Vec<u8>,
-}
-
-/// A status with a line of three pieces.
-pub(crate) fn line(
-    alloc: Global,
-    status: Status,
-    first: &str,
-    second: &str,
-    third: &str,
-) -> Result<Output, Memory>
-    ensures { IsUnlessMemory (record { status = status; text = first.now ++ second.now ++ third.now ++ 10 ∷ [] }) (made result) }
-{
-    let mut text = Vec::new(alloc);
-    text.extend_from_slice(first.as_bytes())?;
-    text.extend_from_slice(second.as_bytes())?;
-    text.extend_from_slice(third.as_bytes())?;
-    text.push(b'\n')?;
-    Ok(Output { status, text })
-}
 
 /// The output where an input is refused.
 pub(crate) fn refused(alloc: Global, what: &str) -> Result<Output, Memory>

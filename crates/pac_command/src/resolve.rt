@@ -4,14 +4,15 @@ ghost use Rattle.utf16_text.specs.Decode.{decoded_units, utf16_units};
 ghost use Rattle.pac_plan.specs.Plan.{Outside};
 ghost use Rattle.pac_command.specs.Plans.{Follows};
 ghost use Rattle.pac_command.specs.Resolve.{resolve_plan, text_plan};
-ghost use Rattle.pac_command.specs.OutputView.{made};
+ghost use Rattle.pac_plan.specs.OutputView.{made};
 
 use crate::first_url::view;
-use crate::output::{Output, not_read, refused, refused_script, report};
+use crate::output::{not_read, refused, refused_script, report};
 use crate::script::{FILE_LIMIT, decoded};
 use js_interp::first::{self, FirstAnswer};
 use js_parser::read_script;
 use js_tree::ReadAnswer;
+use pac_plan::Output;
 use pac_ports::Files;
 use std::alloc::Global;
 use std::sync::ledger::Ledger;

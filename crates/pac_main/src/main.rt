@@ -1,7 +1,8 @@
 //! The program `pac`: makes the real outside, does what the words ask for and exits with the status.
 //!
 //! All that matters is `pac` of pac_command; here stand the adapters to real files and standard output, a few lines
-//! each, which are the trusted edge: that they do what they say is the machine's matter.
+//! each, and those of pac_net to the network are made. They are the trusted edge: that they do what they say is the
+//! machine's matter.
 #![tactic(auto)]
 
 mod disk_files;
@@ -14,12 +15,16 @@ ghost use Rattle.std.specs.Prelude.{◌≡◌, ◌<◌};
 
 use disk_files::DiskFiles;
 use pac_command::{Status, pac};
-use pac_ports::{ClosedLink, FixedClock, ListDice};
+use pac_net::{RandomDice, UdpLink};
+use pac_ports::FixedClock;
 use standard_output::StandardOutput;
 use std::io;
 use std::marker::Brand;
+use std::net::Net;
 use std::process::ExitCode;
+use std::random::RandomSource;
 use std::sync::ledger::{Blank, Ledger};
+use std::time::Clock;
 use step_counter::Steps;
 use words::words_of;
 
@@ -34,7 +39,7 @@ fn main(rt: HostRuntime) -> ExitCode {
 }
 
 // The top call over the real outside, with a counter of a new ledger.
-fn called<L: Ledger, R: std::rt::Files + Print + AllocGlobal + Drop>(
+fn called<L: Ledger, R: std::rt::Files + Print + AllocGlobal + Net + Clock + RandomSource + Drop>(
     rt: &R,
     words: &Vec<String>,
     blank: Blank,
@@ -45,9 +50,9 @@ fn called<L: Ledger, R: std::rt::Files + Print + AllocGlobal + Drop>(
 {
     let mut files = DiskFiles::new(rt);
     let mut out = StandardOutput::new(rt);
-    let mut link = ClosedLink::new();
+    let mut link = UdpLink::new(rt);
     let mut clock = FixedClock::new(0);
-    let mut dice = ListDice::new(Vec::new(rt.alloc()));
+    let mut dice = RandomDice::new(rt);
     let mut runs = Steps::<L>::new(blank);
     pac(
         rt.alloc(),

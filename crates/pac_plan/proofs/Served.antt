@@ -7,7 +7,7 @@ use Rattle.pac_ports.specs.Sink.{SinkState, has_room, with_bytes}
 use Rattle.pac_plan.specs.Plan.{Output, Plan, Program, at_once, timed, Outside, Talks, read_fault, link_fault}
 use Rattle.pac_plan.specs.Follows.{Follows, FollowsProgram, Gives, IsUnlessMemory}
 use Rattle.pac_plan.specs.Complete.{IsSureOfNames, Completed}
-use Rattle.pac_plan.specs.Serves.{ServesPlan, Serves}
+use Rattle.pac_plan.specs.Serves.{HasNoMemory, ServesPlan, Serves}
 use Rattle.pac_plan.specs.declared.status.Status.{Status}
 use Rattle.pac_plan.specs.declared.status.Status.TheVariants as status
 use Rattle.pac_plan.proofs.Counts.{Counted, counted}
@@ -91,11 +91,15 @@ serves_plan K plan old new out out' given made followed gave = let count = count
   };
 }
 
+no_memory : (old new : Outside) (out out' : SinkState) (given : Status) (made : Option Output) → (new ≡ old) × (made ≡ None) → Gives made given out out' → HasNoMemory old new out out' given
+no_memory old new out out' given made h gave =
+    let none : Gives None given out out' = subst (λ (o : Option Output). Gives o given out out') h.1 gave in
+    record { status = none.0; outside = h.0; sink = none.1 }
+
 -- a call that follows a program and writes its answer serves it
 pub serves : {T : Type 0} (K : Talks T) (program : Program T) (old new : Outside) (out out' : SinkState) (given : Status) (made : Option Output)
     → FollowsProgram K program old new made → Gives made given out out' → Serves K program old new out out' given
-serves K (at_once plan) old new out out' given made followed gave = serves_plan K plan old new out out' given made followed gave
+serves K (at_once plan) old new out out' given made (inl followed) gave = inl (serves_plan K plan old new out out' given made followed gave)
+serves K (at_once plan) old new out out' given made (inr h) gave = inr (no_memory old new out out' given made h gave)
 serves K (timed next) old new out out' given made (inl h) gave = inl (h.0, serves_plan K (next h.0) _ new out out' given made h.1 gave)
-serves K (timed next) old new out out' given made (inr h) gave =
-    let none : Gives None given out out' = subst (λ (o : Option Output). Gives o given out out') h.1 gave in
-    inr (record { status = none.0; outside = h.0; sink = none.1 })
+serves K (timed next) old new out out' given made (inr h) gave = inr (no_memory old new out out' given made h gave)

@@ -39,9 +39,9 @@ Follows K (read kind name next) old new made = (found : Result (List ℕ) FilesA
     × GoesOn kind found (λ bytes mid. Follows K (next bytes) mid new made) (record old { files = files }) new made
 Follows K (talk t answer) old new made = (end : End) × (log : List Move) × K.Talked t old end log new × TalkSays end (answer log) made
 
--- the clock gives one moment, or memory ran out before
+-- a plan at once, or from the moment on that the clock gives; or memory ran out before anything was done
 abbrev pub FollowsProgram : {T : Type 0} → Talks T → Program T → Outside → Outside → Option Output → Type 0
-FollowsProgram K (at_once plan) old new made = Follows K plan old new made
+FollowsProgram K (at_once plan) old new made = Follows K plan old new made ⊎ ((new ≡ old) × (made ≡ None))
 FollowsProgram K (timed next) old new made =
     ((m : ℤ) × Follows K (next m) (record old { clock = with_moment m old.clock }) new made) ⊎ ((new ≡ old) × (made ≡ None))
 

@@ -24,8 +24,8 @@ pub record HasNoMemory (old new : Outside) (out out' : SinkState) (given : Statu
   pub outside : new ≡ old
   pub sink : out' ≡ out
 
--- a plan at once; or else the clock gives one moment first
+-- a plan at once, or behind one moment that the clock gives; or memory ran out before
 abbrev pub Serves : {T : Type 0} → Talks T → Program T → Outside → Outside → SinkState → SinkState → Status → Type 0
-Serves K (at_once plan) old new out out' given = ServesPlan K plan old new out out' given
+Serves K (at_once plan) old new out out' given = ServesPlan K plan old new out out' given ⊎ HasNoMemory old new out out' given
 Serves K (timed next) old new out out' given =
     ((m : ℤ) × ServesPlan K (next m) (record old { clock = with_moment m old.clock }) new out out' given) ⊎ HasNoMemory old new out out' given

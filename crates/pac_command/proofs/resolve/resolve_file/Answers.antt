@@ -1,5 +1,5 @@
 use Rattle.pac_plan.proofs.GivesUp.{gives_up}
-use Rattle.pac_command.specs.Plans.{talks}
+use Rattle.pac_ask.specs.Talks.{talks}
 use Rattle.pac_command.proofs.resolve.resolve_file.Goals as goal
 
 -- each exit for want of memory

@@ -1,7 +1,11 @@
+use Rattle.pac_command.proofs.Programs.{memory_first, says_usage}
 use Rattle.pac_command.proofs.top.output_of.Goals as goal
 
-pub returns-in-Some-Resolve : goal.returns-in-Some-Resolve
-returns-in-Some-Resolve g c = λ o. rw (← c.read_words.ensures, c.in-Some-Resolve.is, c.in-Some-Resolve.field-0-is) (c.resolve.ensures o)
+pub returns-in_default : goal.returns-in_default
+returns-in_default g c = λ o. memory_first _ _
 
-pub returns-in-Some-Check : goal.returns-in-Some-Check
-returns-in-Some-Check g c = λ o. rw (← c.read_words.ensures, c.in-Some-Check.is, c.in-Some-Check.field-0-is) (c.check.ensures (record o { runs = c.args.runs.now }))
+pub returns-in-Some : goal.returns-in-Some
+returns-in-Some g c = λ o. rw (← c.in-Ok.ensures, c.in-Some.is) (c.done.ensures o)
+
+pub returns-in-None : goal.returns-in-None
+returns-in-None g c = λ o. rw (← c.in-Ok.ensures, c.in-None.is) (says_usage _ _ c.faulty_usage.ensures)

@@ -1,6 +1,6 @@
 use Rattle.std.proofs.Common.{refl}
 use Rattle.pac_plan.proofs.Served.{serves}
-use Rattle.pac_command.specs.Plans.{talks}
+use Rattle.pac_ask.specs.Talks.{talks}
 use Rattle.pac_command.proofs.top.pac.Goals as goal
 
 pub returns-in-Ok : goal.returns-in-Ok
