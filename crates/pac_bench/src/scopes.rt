@@ -26,6 +26,9 @@ pub fn run(rt: &HostRuntime, words: &[String]) -> Result<()> {
     let start = Instant::now(rt)?;
     let program = resolve(rt.alloc(), script).context("memory")?;
     let resolving = start.elapsed(rt)?.as_nanos();
-    println!(rt; "{} functions, {reading} nanoseconds to read, {resolving} to resolve", program.functions.len())?;
+    println!(rt;
+        "{} functions, {reading} nanoseconds to read, {resolving} to resolve",
+        program.functions.len()
+    )?;
     Ok(())
 }
