@@ -5,6 +5,7 @@
 #![tactic(auto)]
 
 mod listing;
+mod parts;
 
 use crate::listing::listing;
 use anyhow::{Context, Result, bail, ensure};
