@@ -213,6 +213,8 @@ CHECKS = [
 
 
 def main():
+    # A run in the background ignores interrupts, and what it starts would too.
+    signal.signal(signal.SIGINT, signal.default_int_handler)
     failed = 0
     for check in CHECKS:
         try:
