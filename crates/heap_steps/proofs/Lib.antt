@@ -1,0 +1,4 @@
+pub mod Bounds
+pub mod Chains
+pub mod Fixed
+pub mod Operators
