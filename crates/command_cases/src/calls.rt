@@ -4,7 +4,7 @@ ghost use Rattle.std.specs.Prelude.{◌≡◌, ◌<◌};
 use anyhow::Result;
 use case_rows::written_octets;
 use pac_command::{Status, pac};
-use pac_ports::{ClosedLink, FixedClock, ListDice, MemoryFiles, Sink};
+use pac_ports::{FixedClock, ListDice, MemoryFiles, MemoryLink, Sink};
 use std::alloc::Global;
 use std::marker::Brand;
 use std::sync::ledger::{Blank, Ledger};
@@ -28,7 +28,7 @@ pub(crate) fn status_of<K: Sink>(
     for word in line.split_whitespace() {
         words.push(String::from_str(alloc, word)?)?;
     }
-    Ok(called::<K, Brand>(alloc, &words, files, out, Blank::new(1)))
+    called::<K, Brand>(alloc, &words, files, out, Blank::new(1))
 }
 
 // The status of words over files and a sink.
@@ -38,18 +38,18 @@ fn called<K: Sink, L: Ledger>(
     files: &mut MemoryFiles,
     out: &mut K,
     blank: Blank,
-) -> Status
+) -> Result<Status>
     requires name { blank.name ≡ L.name }
     requires parts { blank.parts ≡ L.parts }
     requires some { 0 < blank.parts }
 {
-    let mut link = ClosedLink::new();
+    let mut link = MemoryLink::new(alloc, 0)?;
     let mut clock = FixedClock::new(0);
     let mut dice = ListDice::new(Vec::new(alloc));
     let mut runs = Steps::<L>::new(blank);
-    pac(
+    Ok(pac(
         alloc, words, files, out, &mut link, &mut clock, &mut dice, &mut runs,
-    )
+    ))
 }
 
 /// A status, and what is written, as rows tell them.

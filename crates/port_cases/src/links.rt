@@ -1,7 +1,5 @@
-// Links in memory, and the closed one.
-use pac_ports::{
-    ClosedLink, Failed, Got, Link, LinkEvent, MemoryLink, Move, MoveList, Octets, Server,
-};
+// Links in memory.
+use pac_ports::{Failed, Got, Link, LinkEvent, MemoryLink, Move, MoveList, Octets, Server};
 use std::alloc::Global;
 use std::test::Fail;
 
@@ -80,14 +78,6 @@ fn a_listed_call_fails_and_adds_nothing(rt: HostRuntime) -> Result<(), Fail> {
         assert_eq!(rt; in_one_line(alloc, link.log())?.as_str(), log, "{call}");
     }
     Ok(())
-}
-
-#[test]
-fn each_call_of_a_closed_link_fails(rt: HostRuntime) {
-    let mut link = ClosedLink::new();
-    assert_eq!(rt; link.open(SERVER), Err(Failed));
-    assert_eq!(rt; link.send(b"?"), Err(Failed));
-    assert!(rt; link.receive(&mut [0; 512]) == Err(Failed));
 }
 
 #[test]
