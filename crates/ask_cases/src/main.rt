@@ -1,8 +1,8 @@
 //! What `pac ask` writes and sends beside a server that is silent, slow or hostile, over a link in memory.
 //!
-//! Each line of the input is a case: the words of the command line, ` | `, the number of the call of the link that fails
-//! (0 for none), and what comes over the link. The program writes the status, the text, and the moves of the link. It
-//! stands on pac_command; that its calls are safe and return is all that is promised of it.
+//! Each line of the input is a case: the words of the command line, ` | `, the number of the call of the link that
+//! fails (0 for none), and what comes over the link. The program writes the status, the text, and the moves of the
+//! link. It stands on pac_command; that its calls are safe and return is all that is promised of it.
 #![tactic(auto)]
 
 mod coming;

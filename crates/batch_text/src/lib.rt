@@ -1,7 +1,7 @@
 //! Reads what stands beside the script: URLs, as a script sees them, and files of names.
 //!
-//! What a URL is, is as the URL Standard (sections 4.4 and 4.5) has it. It stands on tables of answers, names and texts,
-//! and on `url`.
+//! What a URL is, is as the URL Standard (sections 4.4 and 4.5) has it. It stands on tables of answers, names and
+//! texts, and on `url`.
 #![tactic(auto)]
 
 mod lines;

@@ -159,3 +159,24 @@ pub fn has_property(
         Found::LeftOut(name) => Err(Halt::LeftOut { name, place }),
     }
 }
+
+/// Whether a value is among the prototypes of an object; a value that is no object throws (ECMA-262 5.1, section
+/// 15.3.5.3).
+pub fn stands_among(
+    alloc: Global,
+    heap: &mut Heap,
+    object: ObjectId,
+    prototype: &Value,
+    place: Place,
+) -> Result<Value, Halt>
+    ensures { Works (spec.stands_among object prototype.now place) heap.old result heap.new }
+{
+    match prototype {
+        Value::Undefined => throw_type_error(alloc, heap, b"not an object", place),
+        Value::Null => throw_type_error(alloc, heap, b"not an object", place),
+        Value::Bool(_) => throw_type_error(alloc, heap, b"not an object", place),
+        Value::Number(_) => throw_type_error(alloc, heap, b"not an object", place),
+        Value::Text(_) => throw_type_error(alloc, heap, b"not an object", place),
+        Value::Object(prototype) => Ok(Value::Bool(heap.inherits_from(object, *prototype))),
+    }
+}

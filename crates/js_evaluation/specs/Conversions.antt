@@ -1,6 +1,5 @@
 -- Conversions that may call the script, and operators (ECMA-262 5.1, sections 8.12.8, 9.1, 9.3, 9.8 and 11).
 use Rattle.std.specs.Prelude.{ℕ, ℤ, pos, ◌+ℤ◌, ◌-ℤ◌, List, [], ◌∷◌, Bool, true, false, ◌==◌, ◌&&◌, ◌||◌, not, if◌then◌else◌, Option, Some, None, Result, Ok, Err, codes}
-use Rattle.std.specs.List.{list_any}
 use Rattle.js_tree.specs.declared.place.Place.{Place}
 use Rattle.js_tree.specs.declared.operators.BinaryOp.{BinaryOp}
 use Rattle.js_tree.specs.declared.operators.BinaryOp.TheVariants as op
@@ -12,7 +11,7 @@ use Rattle.heap_values.specs.declared.ids.ObjectId.{ObjectId}
 use Rattle.heap_values.specs.declared.value.Value.{Value}
 use Rattle.heap_values.specs.declared.value.Value.TheVariants.{Undefined, Null, Bool as Truth, Number, Text, Object}
 use Rattle.heap_values.specs.Views.{HeapView}
-use Rattle.object_heap.specs.Heap.{object_at, kind_in, prototype_in, line_of}
+use Rattle.object_heap.specs.Heap.{object_at, kind_in}
 use Rattle.whole_number.specs.declared.answer.WholeAnswer.{WholeAnswer}
 use Rattle.whole_number.specs.declared.answer.WholeAnswer.TheVariants as whole
 use Rattle.whole_number.specs.Whole.{whole_of, int32_of}
@@ -27,7 +26,7 @@ use Rattle.run_trees.specs.Runs.{pure, reading, ◌>>=◌, ◌>>◌}
 use Rattle.js_evaluation.specs.declared.fault.FaultCode.{FaultCode}
 use Rattle.js_evaluation.specs.declared.fault.FaultCode.TheVariants as code
 use Rattle.js_evaluation.specs.State.{Does, fault, spend, throw_type_error}
-use Rattle.js_evaluation.specs.Objects.{get, is_callable, is_callable_kind, has_property}
+use Rattle.js_evaluation.specs.Objects.{get, is_callable, is_callable_kind, has_property, stands_among}
 
 -- how a call is made: the function, its `this`, its arguments, and the place that the call has
 abbrev pub Call : Type 0
@@ -131,13 +130,9 @@ module _ (call : Call) where
   is_in a (Object id) place = to_text a place >>= (λ name. has_property id name place)
   is_in a b place = throw_type_error (codes "not an object") place
 
-  -- `instanceof` (11.8.6, 15.3.5.3): the prototype of the function is among the prototypes of the object
-  abbrev pub stands_among : HeapView → ObjectId → Value → Place → Does Value
-  stands_among h id (Object prototype) place = pure (Truth (list_any (λ p. p.0 == prototype.0) (line_of h (prototype_in (object_at h id)))))
-  stands_among h id v place = throw_type_error (codes "not an object") place
-
+  -- `instanceof` (11.8.6): the prototype of the function is among the prototypes of the object
   abbrev pub instance_of_by : Value → Value → Place → Does Value
-  instance_of_by (Object id) f place = get f (codes "prototype") place >>= (λ prototype. reading (λ s. stands_among s.heap id prototype place))
+  instance_of_by (Object id) f place = get f (codes "prototype") place >>= (λ prototype. stands_among id prototype place)
   instance_of_by v f place = pure (Truth false)
 
   abbrev pub instance_of : Value → Value → Place → Does Value

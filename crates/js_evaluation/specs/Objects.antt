@@ -20,7 +20,7 @@ use Rattle.heap_values.specs.declared.value.Value.TheVariants.{Undefined, Null, 
 use Rattle.heap_values.specs.Views.{HeapView, ObjectView}
 use Rattle.heap_objects.specs.Names.{array_index}
 use Rattle.heap_objects.specs.Object.{property_after, can_delete}
-use Rattle.object_heap.specs.Heap.{object_at, kind_in, scope_at, parent_in, slot_of, found_of, own_found_in, stored, deleted_of}
+use Rattle.object_heap.specs.Heap.{object_at, kind_in, inherits_from, scope_at, parent_in, slot_of, found_of, own_found_in, stored, deleted_of}
 use Rattle.run_trees.specs.Runs.{pure, reading, ◌>>=◌, ◌>>◌}
 use Rattle.js_evaluation.specs.State.{Does, fault, unsupported, heap_fault, with_heap, make, define, write_slot, built_in_object, throw_error, throw_type_error}
 
@@ -143,6 +143,11 @@ is_there (found.LeftOut name) place = unsupported name place
 
 abbrev pub has_property : ObjectId → List ℕ → Place → Does Value
 has_property id name place = reading (λ s. is_there (found_of s.heap id name) place)
+
+-- whether a value is among the prototypes of an object (15.3.5.3)
+abbrev pub stands_among : ObjectId → Value → Place → Does Value
+stands_among id (Object prototype) place = reading (λ s. pure (Truth (inherits_from s.heap id prototype)))
+stands_among id v place = throw_type_error (codes "not an object") place
 
 -- ---- names (10.2.1, 10.2.2.1)
 

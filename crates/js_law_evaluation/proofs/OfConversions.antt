@@ -9,7 +9,6 @@ use Rattle.js_tree.specs.declared.operators.UpdateOp.TheVariants as update
 use Rattle.heap_values.specs.declared.ids.ObjectId.{ObjectId}
 use Rattle.heap_values.specs.declared.value.Value.{Value}
 use Rattle.heap_values.specs.declared.value.Value.TheVariants.{Bool as Truth, Text, Object}
-use Rattle.heap_values.specs.Views.{HeapView}
 use Rattle.whole_number.specs.declared.answer.WholeAnswer.{WholeAnswer}
 use Rattle.whole_number.specs.declared.answer.WholeAnswer.TheVariants as whole
 use Rattle.whole_number.specs.Whole.{whole_of}
@@ -20,9 +19,9 @@ use Rattle.js_convert.specs.Numeric.{numeric_of}
 use Rattle.js_convert.specs.Texts.{text_of}
 use Rattle.js_convert.specs.Operators.{operator_value, is_object}
 use Rattle.js_evaluation.specs.Objects.{is_callable}
-use Rattle.js_evaluation.specs.Conversions.{Call, number_methods, text_methods, call_value_if, call_value, primitive_by, to_primitive, number_or_fault, to_number, to_text, bits_or_fault, to_bits, counted, operated, takes_primitives, operate, is_in, stands_among, instance_of_by, instance_of, binary, whole_or_fault, stepped}
+use Rattle.js_evaluation.specs.Conversions.{Call, number_methods, text_methods, call_value_if, call_value, primitive_by, to_primitive, number_or_fault, to_number, to_text, bits_or_fault, to_bits, counted, operated, takes_primitives, operate, is_in, instance_of_by, instance_of, binary, whole_or_fault, stepped}
 use Rattle.js_law_evaluation.proofs.OfState.{Ends, gives, fails, reads, ◌onto◌, ◌then◌, either, spend-ends, throw_type_error-ends}
-use Rattle.js_law_evaluation.proofs.OfObjects.{get-ends, has_property-ends}
+use Rattle.js_law_evaluation.proofs.OfObjects.{get-ends, has_property-ends, stands_among-ends}
 
 pub number_or_fault-ends : (call : Call) (n : Numeric) (place : Place) → Ends (number_or_fault call n place)
 number_or_fault-ends call (numeric.Whole n) place = gives n
@@ -54,13 +53,9 @@ operated-ends : (call : Call) (result : Result Value ConvertAnswer) (place : Pla
 operated-ends call (Ok v) place = counted-ends call v place
 operated-ends call (Err e) place = fails _ place
 
-stands_among-ends : (call : Call) (h : HeapView) (id : ObjectId) (v : Value) (place : Place) → Ends (stands_among call h id v place)
-stands_among-ends call h id (Object prototype) place = gives _
-stands_among-ends call h id v place = throw_type_error-ends (codes "not an object") place
-
 instance_of_by-ends : (call : Call) (v f : Value) (place : Place) → Ends (instance_of_by call v f place)
 instance_of_by-ends call (Object id) f place =
-    get-ends f (codes "prototype") place onto (λ prototype. reads (λ s. stands_among-ends call s.heap id prototype place))
+    get-ends f (codes "prototype") place onto (λ prototype. stands_among-ends id prototype place)
 instance_of_by-ends call v f place = gives (Truth false)
 
 instance_of-ends : (call : Call) (a b : Value) (place : Place) → Ends (instance_of call a b place)

@@ -19,7 +19,7 @@ use Rattle.heap_values.specs.Views.{HeapView}
 use Rattle.heap_objects.specs.Object.{property_after}
 use Rattle.object_heap.specs.Heap.{object_at, slot_of, found_of, own_found_in, stored, deleted_of}
 use Rattle.js_evaluation.specs.State.{built_in_object}
-use Rattle.js_evaluation.specs.Objects.{Context, holder_of, own_of, found_value, get_from, get_or, get, test_base, is_fixed, written, put_on, put, truth_after, deleted_unless, delete_property, is_there, has_property, scope_out, global_id, global_value, read_bound, read_name, read_or_undefined_by, read_or_undefined, write_bound, write_name, delete_bound, closure}
+use Rattle.js_evaluation.specs.Objects.{Context, holder_of, own_of, found_value, get_from, get_or, get, test_base, is_fixed, written, put_on, put, truth_after, deleted_unless, delete_property, is_there, has_property, stands_among, scope_out, global_id, global_value, read_bound, read_name, read_or_undefined_by, read_or_undefined, write_bound, write_name, delete_bound, closure}
 use Rattle.js_law_evaluation.proofs.OfState.{Ends, gives, fails, halts, reads, ◌onto◌, ◌then◌, either, with_heap-ends, make-ends, define-ends, write_slot-ends, throw_error-ends, throw_type_error-ends}
 
 -- ---- properties of values
@@ -75,6 +75,10 @@ is_there-ends (found.LeftOut name) place = halts _
 
 pub has_property-ends : (id : ObjectId) (name : List ℕ) (place : Place) → Ends (has_property id name place)
 has_property-ends id name place = reads (λ s. is_there-ends (found_of s.heap id name) place)
+
+pub stands_among-ends : (id : ObjectId) (v : Value) (place : Place) → Ends (stands_among id v place)
+stands_among-ends id (Object prototype) place = reads (λ s. gives _)
+stands_among-ends id v place = throw_type_error-ends (codes "not an object") place
 
 -- ---- names
 

@@ -1,5 +1,6 @@
 -- The line of an object is the object, and behind it the line of its prototype.
-use Rattle.std.proofs.Common.{◌≡◌, ℕ, ◌<◌, ◌≤◌, ◌+◌, Bool, true, false, if◌then◌else◌, List, [], ◌∷◌, ◌++◌, reverse, get_or, length-append, append_assoc, ◌≢◌, Option, Some, None, IfSome, length, take, drop, length-take, inl, inr, refl, ap, ◌∙◌, sym, subst, arith}
+use Rattle.std.proofs.Common.{◌≡◌, ℕ, ◌<◌, ◌≤◌, ◌+◌, ◌==◌, ◌||◌, Bool, true, false, if◌then◌else◌, List, [], ◌∷◌, ◌++◌, reverse, get_or, length-append, append_assoc, ◌≢◌, Option, Some, None, IfSome, length, take, drop, length-take, inl, inr, refl, ap, ◌∙◌, sym, subst, arith}
+use Rattle.std.specs.List.{list_any}
 use Rattle.std.proofs.lemmas.List.{length-reverse, reverse-append, take-append-drop, drop_more}
 use Rattle.std.proofs.lemmas.Bool.{ne_eqb, eq-eqb}
 use Rattle.std.proofs.lemmas.Option.{IfSome_then, slice_get_cases}
@@ -141,4 +142,40 @@ keys_among-line h id names older =
           ap (λ ids. keys_among h ids names) (line_of-past h id c.0)
           ∙ sym (ap (λ ids. keys_among h ids names) (line_among-none (reverse h.objects)))
           ∙ sym (ap (λ o. keys_among h (line_of h (prototype_in o)) (with_names names (own_keys_in o))) c.1)
+    ]
+
+-- a prototype that an object has is there
+pub next_is_there : (h : HeapView) (id : ObjectId) (next : Option ObjectId) → next ≡ prototype_in (object_at h id) → IfSome next (λ p. p.0 < id.0)
+    → IfSome next (λ p. p.0 < length h.objects)
+next_is_there h id None is older = tt
+next_is_there h id (Some p) is older =
+    elim (slice_get_cases h.objects id.0).1 as (λ _. p.0 < length h.objects) [
+      | inl c ↦ omega (arith, older, c.1)
+      | inr c ↦ let nothing : Some p ≡ None = is ∙ ap prototype_in c.1 in absurd (cc)
+    ]
+
+-- an object that is there stands before its prototypes
+pub inherits-here : (h : HeapView) (id prototype : ObjectId) → id.0 < length h.objects → (id.0 == prototype.0) ≡ true
+    → list_any (λ p. p.0 == prototype.0) (line_of h (Some id)) ≡ true
+inherits-here h id prototype there same =
+    elim (slice_get_cases h.objects id.0).1 as (λ _. list_any (λ p. p.0 == prototype.0) (line_of h (Some id)) ≡ true) [
+      | inl c ↦
+          let behind = line_among (reverse (take id.0 h.objects)) (c.0).prototype in
+          ap (list_any (λ p. p.0 == prototype.0)) (line_of-front h id c.0 c.1 c.3)
+          ∙ ap (λ b. b || list_any (λ p. p.0 == prototype.0) behind) same
+      | inr c ↦ absurd (omega (arith, there, c.0))
+    ]
+
+pub inherits-pass : (h : HeapView) (id prototype : ObjectId) → id.0 < length h.objects → IfSome (prototype_in (object_at h id)) (λ p. p.0 < id.0)
+    → (id.0 == prototype.0) ≡ false
+    → list_any (λ p. p.0 == prototype.0) (line_of h (Some id)) ≡ list_any (λ p. p.0 == prototype.0) (line_of h (prototype_in (object_at h id)))
+inherits-pass h id prototype there older other =
+    let any : List ObjectId → Bool = list_any (λ p. p.0 == prototype.0) in
+    elim (slice_get_cases h.objects id.0).1 as (λ _. any (line_of h (Some id)) ≡ any (line_of h (prototype_in (object_at h id)))) [
+      | inl c ↦
+          let behind : prototype_in (object_at h id) ≡ (c.0).prototype = ap prototype_in c.2 in
+          ap any (line_of-object h id c.0 c.1 c.3 (subst (λ (p : Option ObjectId). IfSome p (λ q. q.0 < id.0)) behind older))
+          ∙ ap (λ b. b || any (line_of h (c.0).prototype)) other
+          ∙ sym (ap (λ p. any (line_of h p)) behind)
+      | inr c ↦ absurd (omega (arith, there, c.0))
     ]

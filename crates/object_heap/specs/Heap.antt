@@ -1,5 +1,6 @@
 -- The heap of a run: what each call makes of it (ECMA-262 5.1, sections 8.12 and 10.2), and what it refuses.
-use Rattle.std.specs.Prelude.{ℕ, ◌+◌, ◌-◌, ◌<◌, pos, List, [], ◌∷◌, ◌++◌, reverse, Option, Some, None, IfSome, Bool, true, false, if◌then◌else◌, slice_get, slice_set, length, nat_eq, nat_lt, nat_le, Result, Ok, Err}
+use Rattle.std.specs.Prelude.{ℕ, ◌+◌, ◌-◌, ◌<◌, pos, List, [], ◌∷◌, ◌++◌, reverse, Option, Some, None, IfSome, Bool, true, false, ◌==◌, if◌then◌else◌, slice_get, slice_set, length, nat_eq, nat_lt, nat_le, Result, Ok, Err}
+use Rattle.std.specs.List.{list_any}
 use Rattle.heap_values.specs.declared.answer.HeapAnswer.{HeapAnswer}
 use Rattle.heap_values.specs.declared.answer.HeapAnswer.TheVariants as answer
 use Rattle.heap_values.specs.declared.found.Found.{Found}
@@ -55,6 +56,10 @@ line_among (o ∷ older) (Some id) = if nat_eq id.0 (length older) then id ∷ l
 -- an object and its prototypes, nearest first. Each prototype is older than its object, so all of them stand there
 abbrev pub line_of : HeapView → Option ObjectId → List ObjectId
 line_of h id = line_among (reverse h.objects) id
+
+-- whether the prototype is among the prototypes of an object (15.3.5.3)
+abbrev pub inherits_from : HeapView → ObjectId → ObjectId → Bool
+inherits_from h object prototype = list_any (λ p. p.0 == prototype.0) (line_of h (prototype_in (object_at h object)))
 
 -- ---- looking up (8.12.2)
 

@@ -23,6 +23,7 @@ ghost use Rattle.object_heap.specs.Heap.{
   scope_at,
   kind_in,
   prototype_in,
+  inherits_from,
   length_of,
   found_of,
   own_found_in,
@@ -129,6 +130,20 @@ impl Heap {
             None => None,
             Some(object) => object.prototype(),
         }
+    }
+
+    /// Whether the prototype is among the prototypes of the object (ECMA-262 5.1, section 15.3.5.3).
+    pub fn inherits_from(&self, object: ObjectId, prototype: ObjectId) -> bool
+        ensures { result ≡ inherits_from self.now object prototype }
+    {
+        let mut next = self.prototype(object);
+        while let Some(id) = next {
+            if id == prototype {
+                return true;
+            }
+            next = self.prototype(id);
+        }
+        false
     }
 
     /// The length of an array; 0 for any other object.

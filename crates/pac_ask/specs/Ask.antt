@@ -1,10 +1,9 @@
 -- What `ask` does.
-use Rattle.std.specs.Prelude.{ℕ, ◌/◌, ◌%◌, List, ◌++◌, ◌∷◌, Option, Some, None, codes}
-use Rattle.std.specs.Fmt.{decimal}
+use Rattle.std.specs.Prelude.{ℕ, List, ◌++◌, Option, Some, None, codes}
 use Rattle.pac_names.specs.declared.answer.Answer.{Answer}
 use Rattle.pac_names.specs.declared.answer.Answer.TheVariants as answer
 use Rattle.pac_names.specs.Names.{lookup_name_of}
-use Rattle.pac_names.specs.Quads.{quad_of}
+use Rattle.pac_names.specs.Quads.{quad_of, quad_text}
 use Rattle.poll_log.specs.Turns.{turns_of}
 use Rattle.poll_log.specs.Told.{told}
 use Rattle.pac_plan.specs.Plan.{Output, Plan, line, say, talk}
@@ -12,10 +11,6 @@ use Rattle.pac_plan.specs.declared.status.Status.TheVariants as status
 use Rattle.poll_loop.specs.Task.{Talk}
 use Rattle.poll_loop.specs.declared.looping.Asking.{Asking}
 use Rattle.pac_ask.specs.Task.{talk_of}
-
--- the octets of an address, the first one highest, parted by dots (46)
-abbrev pub quad_text : ℕ → List ℕ
-quad_text address = decimal (address / 16777216) ++ 46 ∷ decimal (address / 65536 % 256) ++ 46 ∷ decimal (address / 256 % 256) ++ 46 ∷ decimal (address % 256)
 
 abbrev pub answered : Answer → Output
 answered (answer.Address address) = record { status = status.Good; text = line (codes "address " ++ quad_text address) }

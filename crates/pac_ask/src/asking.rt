@@ -1,5 +1,5 @@
 // `ask`: the address of one name.
-ghost use Rattle.std.specs.Prelude.{◌≡◌, IfOk, None, Some, string_bytes};
+ghost use Rattle.std.specs.Prelude.{◌≡◌, None, Some};
 ghost use Rattle.utf16_text.specs.Decode.{utf16_units};
 ghost use Rattle.pac_plan.specs.Plan.{Outside, talk};
 ghost use Rattle.pac_plan.specs.Follows.{Follows, IsUnlessMemory};
@@ -9,7 +9,7 @@ ghost use Rattle.pac_ask.specs.Ask as plan;
 ghost use Rattle.pac_ask.specs.Talks.{talks};
 
 use crate::one_name::OneName;
-use pac_names::{Answer, LookupName, lookup_name, quad};
+use pac_names::{Answer, LookupName, lookup_name, quad, quad_text};
 use pac_plan::{Output, Status, line};
 use pac_ports::{Dice, Link};
 use poll_loop::{Asking, Stop, poll};
@@ -106,15 +106,4 @@ fn answered(alloc: Global, answer: Answer) -> Result<Output, Memory>
         ),
         Answer::NoAddress => line(alloc, Status::Good, "no address", "", ""),
     }
-}
-
-// The octets of an address, parted by dots.
-fn quad_text(alloc: Global, address: u32) -> Result<String, Memory>
-    ensures { IfOk result (λ text. string_bytes text ≡ plan.quad_text address) }
-{
-    let first = address / 16_777_216;
-    let second = address / 65_536 % 256;
-    let third = address / 256 % 256;
-    let fourth = address % 256;
-    Ok(format!(in alloc; "{first}.{second}.{third}.{fourth}")?)
 }

@@ -1,5 +1,5 @@
-//! What scripts are handed: shell expressions, ranges of weekdays, dates and times, the functions over a host, what a script
-//! sees of a URL, and files of names. A table of calls with their answers.
+//! What scripts are handed: shell expressions, ranges of weekdays, dates and times, the functions over a host, what a
+//! script sees of a URL, and files of names. A table of calls with their answers.
 //!
 //! The cases are those of the page on the Netscape Navigator Proxy Auto-Config format, those of the URL Standard, and
 //! those in which docs/ decides what they leave open. It reads them from its input, and stands on pac_match,

@@ -1,11 +1,10 @@
 -- The functions that ask for addresses (the page on the Netscape Navigator Proxy Auto-Config format).
-use Rattle.std.specs.Prelude.{ℕ, ◌/◌, ◌%◌, List, Bool, true, false, if◌then◌else◌, nat_eq, bit_and, slice_get, Option, Some, None}
-use Rattle.std.specs.Net.Text.{dotted_text}
+use Rattle.std.specs.Prelude.{ℕ, List, Bool, true, false, if◌then◌else◌, nat_eq, bit_and, slice_get, Option, Some, None}
 use Rattle.heap_values.specs.declared.value.Value.{Value}
 use Rattle.heap_values.specs.declared.value.Value.TheVariants as value
 use Rattle.pac_names.specs.declared.answer.Answer.TheVariants as answer
 use Rattle.pac_names.specs.Names.{lookup_name_of}
-use Rattle.pac_names.specs.Quads.{quad_of}
+use Rattle.pac_names.specs.Quads.{quad_of, quad_text}
 use Rattle.js_host.specs.Answers.{Name}
 use Rattle.js_host.specs.Seen.{Reply, Answered, Refused}
 use Rattle.run_trees.specs.RunTree.{RunTree, Done, Ask}
@@ -18,10 +17,6 @@ pub data PacEnd : Type 0 where
   AsksTooMany : PacEnd
 
 -- ---- addresses
-
--- the octets of an address as decimal numbers, parted by dots
-abbrev pub quad_text : ℕ → List ℕ
-quad_text address = dotted_text (address / 16777216) (address / 65536 % 256) (address / 256 % 256) (address % 256)
 
 -- a dotted quad, or null where there is no address
 abbrev pub quad_result : Option ℕ → Value

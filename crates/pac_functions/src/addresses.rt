@@ -1,9 +1,8 @@
 // The functions that ask for addresses.
-ghost use Rattle.std.specs.Prelude.{◌≡◌, IfOk, string_bytes};
+ghost use Rattle.std.specs.Prelude.{◌≡◌, IfOk};
 ghost use Rattle.pac_names.specs.Quads.{quad_of};
 ghost use Rattle.pac_functions.specs.Texts.{text_in};
 ghost use Rattle.pac_functions.specs.Addresses.{
-  quad_text,
   quad_result,
   is_address_in,
   is_nothing,
@@ -18,8 +17,8 @@ use crate::texts::text_at;
 use heap_values::Value;
 use js_convert::to_text;
 use js_host::{Host, Looked};
-use pac_names::{Answer, LookupName, in_net, lookup_name, quad};
-use std::alloc::{AllocError, Global};
+use pac_names::{Answer, LookupName, in_net, lookup_name, quad, quad_text};
+use std::alloc::Global;
 use utf16_text::{Memory, Text};
 
 /// The address of the first argument, where it has one: that which a dotted quad writes, else that which the host has
@@ -94,18 +93,8 @@ pub fn quad_value(alloc: Global, address: Option<u32>) -> Result<Value, Memory>
     match address {
         None => Ok(Value::Null),
         Some(address) => {
-            let text = written(alloc, address)?;
+            let text = quad_text(alloc, address)?;
             Ok(Value::Text(Text::from_latin_1(alloc, text.as_bytes())?))
         }
     }
-}
-
-fn written(alloc: Global, address: u32) -> Result<String, AllocError>
-    ensures { IfOk result (λ text. string_bytes text ≡ quad_text address) }
-{
-    let first = address / 16_777_216;
-    let second = address / 65_536 % 256;
-    let third = address / 256 % 256;
-    let fourth = address % 256;
-    Ok(format!(in alloc; "{first}.{second}.{third}.{fourth}")?)
 }

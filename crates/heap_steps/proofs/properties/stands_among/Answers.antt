@@ -1,0 +1,20 @@
+use Rattle.std.proofs.Common.{refl}
+use Rattle.heap_steps.proofs.properties.stands_among.Goals as goal
+
+pub returns-in-Undefined : goal.returns-in-Undefined
+returns-in-Undefined c = rw c.in-Undefined.is c.throw_type_error.ensures
+
+pub returns-in-Null : goal.returns-in-Null
+returns-in-Null c = rw c.in-Null.is c.throw_type_error-in-Null.ensures
+
+pub returns-in-Bool : goal.returns-in-Bool
+returns-in-Bool c = rw c.in-Bool.is c.throw_type_error-in-Bool.ensures
+
+pub returns-in-Number : goal.returns-in-Number
+returns-in-Number c = rw c.in-Number.is c.throw_type_error-in-Number.ensures
+
+pub returns-in-Text : goal.returns-in-Text
+returns-in-Text c = rw c.in-Text.is c.throw_type_error-in-Text.ensures
+
+pub returns : goal.returns
+returns c = record { is = λ after fuel base. rw c.in-Object.is rw c.inherits_from.ensures refl }
