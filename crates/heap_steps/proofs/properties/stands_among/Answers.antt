@@ -16,5 +16,5 @@ returns-in-Number c = rw c.in-Number.is c.throw_type_error-in-Number.ensures
 pub returns-in-Text : goal.returns-in-Text
 returns-in-Text c = rw c.in-Text.is c.throw_type_error-in-Text.ensures
 
-pub returns : goal.returns
-returns c = record { is = λ after fuel base. rw c.in-Object.is rw c.inherits_from.ensures refl }
+pub returns-in-Object : goal.returns-in-Object
+returns-in-Object c = record { is = λ after fuel base. rw c.in-Object.is rw c.inherits_from.ensures refl }
