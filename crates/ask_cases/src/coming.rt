@@ -15,20 +15,29 @@ const REPLY: [u8; 45] = [
 /// that octet).
 pub fn add(alloc: Global, link: &mut MemoryLink, event: &str) -> Result<()> {
     if let Some(count) = event.strip_prefix("tick*") {
-        for _ in 0..count.parse::<u32>()? {
-            link.event(alloc, LinkEvent::Tick)?;
-        }
-        return Ok(());
+        return add_ticks(alloc, link, count.parse::<u32>()?);
     }
     if let Some(count) = event.strip_prefix("empty*") {
-        for _ in 0..count.parse::<u32>()? {
-            link.event(alloc, LinkEvent::Datagram(Vec::new(alloc)))?;
-        }
-        return Ok(());
+        return add_empty(alloc, link, count.parse::<u32>()?);
     }
     let datagram = datagram(alloc, event)?;
     ensure!(datagram.len() <= 512, "too long");
     link.event(alloc, LinkEvent::Datagram(datagram))?;
+    Ok(())
+}
+
+fn add_ticks(alloc: Global, link: &mut MemoryLink, count: u32) -> Result<()> {
+    for _ in 0..count {
+        link.event(alloc, LinkEvent::Tick)?;
+    }
+    Ok(())
+}
+
+/// Adds so many datagrams without an octet.
+fn add_empty(alloc: Global, link: &mut MemoryLink, count: u32) -> Result<()> {
+    for _ in 0..count {
+        link.event(alloc, LinkEvent::Datagram(Vec::new(alloc)))?;
+    }
     Ok(())
 }
 

@@ -5,6 +5,7 @@ use anyhow::{Context, Result, bail, ensure};
 use case_rows::{Sample, samples, written_text};
 use heap_values::{ObjectId, Value};
 use js_convert::to_text;
+use pac_calendar::Moments;
 use pac_functions::{PacAnswer, PacFunction, PacSettings, call_pac};
 use pac_names::{Answer, LookupName};
 use std::alloc::Global;
@@ -33,29 +34,40 @@ fn told_after(alloc: Global, asked: u32, call: &[&str]) -> Result<String> {
     let now = moments_in(alloc, "UTC", "946814400")?;
     let table = known(alloc)?;
     let mut host = TracingHost::new(alloc, &table);
-    for number in 0..asked {
-        let earlier = Text::from_str(alloc, &format!(in alloc; "n{number}.example")?)?;
-        let earlier = [Value::Text(earlier)];
-        call_pac(
-            alloc,
-            PacFunction::IsResolvable,
-            &earlier,
-            &now,
-            &SETTINGS,
-            &mut host,
-        );
-    }
+    ask_names(alloc, asked, &now, &mut host)?;
     let answer = call_pac(alloc, function, &args, &now, &SETTINGS, &mut host);
     let mut told = written(alloc, &answer)?;
     for name in host.asked().as_slice().iter().skip(asked as usize) {
         told.push_str(", asked ")?;
         told.push_str(name_text(name)?)?;
     }
-    for alert in host.alerts().as_slice() {
+    tell_alerts(alloc, host.alerts().as_slice(), &mut told)?;
+    Ok(told)
+}
+
+/// Asks for so many names.
+fn ask_names(alloc: Global, count: u32, now: &Moments, host: &mut TracingHost<'_>) -> Result<()> {
+    for number in 0..count {
+        let name = Text::from_str(alloc, &format!(in alloc; "n{number}.example")?)?;
+        let args = [Value::Text(name)];
+        call_pac(
+            alloc,
+            PacFunction::IsResolvable,
+            &args,
+            now,
+            &SETTINGS,
+            host,
+        );
+    }
+    Ok(())
+}
+
+fn tell_alerts(alloc: Global, alerts: &[Text], told: &mut String) -> Result<()> {
+    for alert in alerts {
         told.push_str(", alert ")?;
         told.push_str(written_text(alloc, alert)?.as_str())?;
     }
-    Ok(told)
+    Ok(())
 }
 
 /// The answers that the host knows.

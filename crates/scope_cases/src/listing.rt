@@ -59,11 +59,32 @@ fn put_body(alloc: Global, all: &[Statement], out: &mut String) -> Result<()> {
         let Some(part) = left.pop() else {
             return Ok(());
         };
-        for within in put(alloc, part, out)?.into_iter().rev() {
-            left.push(within)?;
-        }
+        put_behind(&mut left, put(alloc, part, out)?)?;
     }
     bail!("a body of at most {MOST_PARTS} parts")
+}
+
+/// Puts parts behind others, the first of them last.
+fn put_behind<'p>(left: &mut Parts<'p>, within: Parts<'p>) -> Result<()> {
+    for part in within.into_iter().rev() {
+        left.push(part)?;
+    }
+    Ok(())
+}
+
+fn put_names(names: &[BoundName], out: &mut String) -> Result<()> {
+    for x in names {
+        put_name(x, out)?;
+    }
+    Ok(())
+}
+
+fn put_texts(texts: &[Text], out: &mut String) -> Result<()> {
+    for text in texts {
+        out.push(' ')?;
+        put_text(text, out)?;
+    }
+    Ok(())
 }
 
 /// A function: its own name, its parameters, the names of its scope, and its body.
@@ -73,14 +94,9 @@ fn put_function(alloc: Global, f: &Function, out: &mut String) -> Result<()> {
         put_name(own, out)?;
     }
     write!(out, " (")?;
-    for x in f.parameters.as_slice() {
-        put_name(x, out)?;
-    }
+    put_names(f.parameters.as_slice(), out)?;
     write!(out, " ) {{")?;
-    for name in f.names.as_slice() {
-        out.push(' ')?;
-        put_text(name, out)?;
-    }
+    put_texts(f.names.as_slice(), out)?;
     write!(out, " }}")?;
     put_body(alloc, f.body.as_slice(), out)
 }

@@ -1,8 +1,8 @@
 // The parts of trees that are named or nested, in the order of reading.
-use anyhow::Result;
+use anyhow::{Result, bail};
 use js_tree::{
-    BoundName, Declared, Expression, ExpressionNode, ForStart, ForTarget, FunctionPart, Statement,
-    StatementNode, Suffix, SuffixNode,
+    BoundName, Branch, Catch, Clause, Declared, Expression, ExpressionNode, ForStart, ForTarget,
+    FunctionPart, Operand, Property, Statement, StatementNode, Suffix, SuffixNode,
 };
 
 /// A part of a tree.
@@ -19,26 +19,15 @@ pub type Parts<'p> = Vec<Part<'p>>;
 /// Puts the parts of an expression behind others.
 pub fn put_expression<'p>(e: &'p Expression, parts: &mut Parts<'p>) -> Result<()> {
     match &e.node {
-        ExpressionNode::Number(_) | ExpressionNode::Text(_) => {}
-        ExpressionNode::True | ExpressionNode::False => {}
-        ExpressionNode::Null | ExpressionNode::This => {}
+        ExpressionNode::Number(_) | ExpressionNode::Text(_) | ExpressionNode::True => {}
+        ExpressionNode::False | ExpressionNode::Null | ExpressionNode::This => {}
         ExpressionNode::Name(x) => parts.push(Part::Name(x))?,
         ExpressionNode::Function(part) => parts.push(Part::Function(part))?,
-        ExpressionNode::Array(all) => {
-            for item in all.as_slice() {
-                put_optional(item.as_ref(), parts)?;
-            }
-        }
-        ExpressionNode::Object(all) => {
-            for property in all.as_slice() {
-                parts.push(Part::Expression(&property.value))?;
-            }
-        }
+        ExpressionNode::Array(all) => put_items(all.as_slice(), parts)?,
+        ExpressionNode::Object(all) => put_properties(all.as_slice(), parts)?,
         ExpressionNode::Suffixed(first, all) => {
             parts.push(Part::Expression(&**first))?;
-            for suffix in all.as_slice() {
-                put_suffix(suffix, parts)?;
-            }
+            put_suffixes(all.as_slice(), parts)?;
         }
         ExpressionNode::New(callee, all) => {
             parts.push(Part::Expression(&**callee))?;
@@ -48,9 +37,7 @@ pub fn put_expression<'p>(e: &'p Expression, parts: &mut Parts<'p>) -> Result<()
         ExpressionNode::Update(_, _, target) => parts.push(Part::Expression(&**target))?,
         ExpressionNode::Chain(first, all) => {
             parts.push(Part::Expression(&**first))?;
-            for operand in all.as_slice() {
-                parts.push(Part::Expression(&operand.value))?;
-            }
+            put_operands(all.as_slice(), parts)?;
         }
         ExpressionNode::Conditional(condition, a, b) => {
             parts.push(Part::Expression(&**condition))?;
@@ -69,6 +56,34 @@ pub fn put_expression<'p>(e: &'p Expression, parts: &mut Parts<'p>) -> Result<()
 fn put_expressions<'p>(all: &'p [Expression], parts: &mut Parts<'p>) -> Result<()> {
     for e in all {
         parts.push(Part::Expression(e))?;
+    }
+    Ok(())
+}
+
+fn put_items<'p>(all: &'p [Option<Expression>], parts: &mut Parts<'p>) -> Result<()> {
+    for item in all {
+        put_optional(item.as_ref(), parts)?;
+    }
+    Ok(())
+}
+
+fn put_properties<'p>(all: &'p [Property], parts: &mut Parts<'p>) -> Result<()> {
+    for property in all {
+        parts.push(Part::Expression(&property.value))?;
+    }
+    Ok(())
+}
+
+fn put_suffixes<'p>(all: &'p [Suffix], parts: &mut Parts<'p>) -> Result<()> {
+    for suffix in all {
+        put_suffix(suffix, parts)?;
+    }
+    Ok(())
+}
+
+fn put_operands<'p>(all: &'p [Operand], parts: &mut Parts<'p>) -> Result<()> {
+    for operand in all {
+        parts.push(Part::Expression(&operand.value))?;
     }
     Ok(())
 }
@@ -107,12 +122,30 @@ pub fn put_statement<'p>(s: &'p Statement, parts: &mut Parts<'p>) -> Result<()> 
         }
         StatementNode::Var(all) => put_all_declared(all.as_slice(), parts)?,
         StatementNode::If(all, otherwise) => {
-            for branch in all.as_slice() {
-                parts.push(Part::Expression(&branch.condition))?;
-                parts.push(Part::Statement(&branch.body))?;
-            }
+            put_branches(all.as_slice(), parts)?;
             put_given(otherwise, parts)?;
         }
+        StatementNode::Return(value) => put_boxed(value, parts)?,
+        StatementNode::Switch(value, all) => {
+            parts.push(Part::Expression(&**value))?;
+            put_clauses(all.as_slice(), parts)?;
+        }
+        StatementNode::Try(block, catch, last) => {
+            parts.push(Part::Statement(&**block))?;
+            put_catch(catch, parts)?;
+            put_given(last, parts)?;
+        }
+        StatementNode::Function(x, part) => {
+            parts.push(Part::Name(x))?;
+            parts.push(Part::Function(part))?;
+        }
+        a_loop => put_loop(a_loop, parts)?,
+    }
+    Ok(())
+}
+
+fn put_loop<'p>(node: &'p StatementNode, parts: &mut Parts<'p>) -> Result<()> {
+    match node {
         StatementNode::DoWhile(body, condition) => {
             parts.push(Part::Statement(&**body))?;
             parts.push(Part::Expression(&**condition))?;
@@ -132,26 +165,31 @@ pub fn put_statement<'p>(s: &'p Statement, parts: &mut Parts<'p>) -> Result<()> 
             parts.push(Part::Expression(&**object))?;
             parts.push(Part::Statement(&**body))?;
         }
-        StatementNode::Return(value) => put_boxed(value, parts)?,
-        StatementNode::Switch(value, all) => {
-            parts.push(Part::Expression(&**value))?;
-            for clause in all.as_slice() {
-                put_optional(clause.test.as_ref(), parts)?;
-                put_statements(clause.body.as_slice(), parts)?;
-            }
-        }
-        StatementNode::Try(block, catch, last) => {
-            parts.push(Part::Statement(&**block))?;
-            if let Some(catch) = catch {
-                parts.push(Part::Name(&catch.name))?;
-                parts.push(Part::Statement(&catch.body))?;
-            }
-            put_given(last, parts)?;
-        }
-        StatementNode::Function(x, part) => {
-            parts.push(Part::Name(x))?;
-            parts.push(Part::Function(part))?;
-        }
+        _ => bail!("no loop"),
+    }
+    Ok(())
+}
+
+fn put_branches<'p>(all: &'p [Branch], parts: &mut Parts<'p>) -> Result<()> {
+    for branch in all {
+        parts.push(Part::Expression(&branch.condition))?;
+        parts.push(Part::Statement(&branch.body))?;
+    }
+    Ok(())
+}
+
+fn put_clauses<'p>(all: &'p [Clause], parts: &mut Parts<'p>) -> Result<()> {
+    for clause in all {
+        put_optional(clause.test.as_ref(), parts)?;
+        put_statements(clause.body.as_slice(), parts)?;
+    }
+    Ok(())
+}
+
+fn put_catch<'p>(catch: &'p Option<Catch>, parts: &mut Parts<'p>) -> Result<()> {
+    if let Some(catch) = catch {
+        parts.push(Part::Name(&catch.name))?;
+        parts.push(Part::Statement(&catch.body))?;
     }
     Ok(())
 }

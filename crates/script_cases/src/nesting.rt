@@ -6,14 +6,17 @@ use std::alloc::Global;
 /// So many of a front, the middle, then as many of a back.
 fn nested(alloc: Global, count: usize, front: &str, middle: &str, back: &str) -> Result<String> {
     let mut source = String::new(alloc);
-    for _part in 0..count {
-        source.push_str(front)?;
-    }
+    push_times(&mut source, front, count)?;
     source.push_str(middle)?;
-    for _part in 0..count {
-        source.push_str(back)?;
-    }
+    push_times(&mut source, back, count)?;
     Ok(source)
+}
+
+fn push_times(source: &mut String, piece: &str, count: usize) -> Result<()> {
+    for _piece in 0..count {
+        source.push_str(piece)?;
+    }
+    Ok(())
 }
 
 /// What comes of a middle in so many fronts and backs.
