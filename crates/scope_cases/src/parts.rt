@@ -186,7 +186,7 @@ fn put_clauses<'p>(all: &'p [Clause], parts: &mut Parts<'p>) -> Result<()> {
     Ok(())
 }
 
-fn put_catch<'p>(catch: &'p Option<Catch>, parts: &mut Parts<'p>) -> Result<()> {
+fn put_catch<'p>(catch: &'p Option<Box<Catch>>, parts: &mut Parts<'p>) -> Result<()> {
     if let Some(catch) = catch {
         parts.push(Part::Name(&catch.name))?;
         parts.push(Part::Statement(&catch.body))?;
