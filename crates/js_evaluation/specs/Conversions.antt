@@ -1,5 +1,5 @@
 -- Conversions that may call the script, and operators (ECMA-262 5.1, sections 8.12.8, 9.1, 9.3, 9.8 and 11).
-use Rattle.std.specs.Prelude.{ℕ, ℤ, pos, ◌+ℤ◌, ◌-ℤ◌, List, [], ◌∷◌, Bool, true, false, ◌==◌, ◌&&◌, ◌||◌, not, if◌then◌else◌, Option, Some, None, Result, Ok, Err, codes}
+use Rattle.std.specs.Prelude.{ℕ, ℤ, pos, ◌+ℤ◌, ◌-ℤ◌, List, [], ◌∷◌, Bool, true, false, ◌&&◌, ◌||◌, not, if◌then◌else◌, Option, Some, None, Result, Ok, Err, codes}
 use Rattle.js_tree.specs.declared.place.Place.{Place}
 use Rattle.js_tree.specs.declared.operators.BinaryOp.{BinaryOp}
 use Rattle.js_tree.specs.declared.operators.BinaryOp.TheVariants as op

@@ -1,23 +1,11 @@
 -- Worked examples of the natives of objects and errors.
-use Rattle.std.specs.Prelude.{◌≡◌, ℕ, List, [], ◌∷◌, ◌++◌, map, Option, Some, None, Result, Ok, true, false, codes, slice_get, slice_set, refl}
-use Rattle.std.specs.FinMap as finite
-use Rattle.js_grammar.specs.Reading.{Refusal, ◌>>=◌}
-use Rattle.js_grammar.specs.Statements.{script_of_text}
-use Rattle.js_binding.specs.Resolved.{resolved}
-use Rattle.heap_values.specs.declared.value.Value.{Value}
-use Rattle.heap_values.specs.declared.value.Value.TheVariants as value
-use Rattle.heap_values.specs.Views.{ObjectView}
-use Rattle.heap_objects.specs.Object.{object_with, value_property}
-use Rattle.object_heap.specs.Fresh.{native_object, fresh_heap}
-use Rattle.run_trees.specs.RunTree.{Done}
-use Rattle.run_trees.specs.WholeRun.{whole_run}
-use Rattle.js_evaluation.specs.State.{Comes}
+use Rattle.std.specs.Prelude.{List, [], ◌∷◌, codes, refl}
 use Rattle.js_evaluation.specs.declared.fault.FaultCode.TheVariants as code
 use Rattle.js_evaluation.specs.Expressions.{expression_node}
 use Rattle.js_evaluation.specs.Statements.{statement_node}
 use Rattle.js_evaluation.specs.Entries.{call_node, construct_node, load_node}
-use Rattle.js_evaluation.specs.Evaluation.{Entry, Ending, script_run, ending_of, first_state, evaluation}
-use Rattle.js_evaluation.specs.Examples.{Row, row, at, doing, gives, fails, fails_with}
+use Rattle.js_evaluation.specs.Evaluation.{evaluation}
+use Rattle.js_evaluation.specs.Examples.{AreRight, Row, row, at, doing, gives, fails, fails_with}
 use Rattle.std.specs.Fmt.{digits}
 use Rattle.js_grammar.specs.Tokens.{piece_at, tokens_from}
 use Rattle.js_grammar.specs.Literals.{text_from}
@@ -27,34 +15,6 @@ use Rattle.js_grammar.specs.Statements.{evaluated, block_from, block, first_valu
 use Rattle.js_binding.specs.Resolved.{expression_in, optional_in, expressions_in, items_in, properties_in, suffix_in, suffixes_in, operands_in, function_in, statement_in, otherwise_in, statements_in, declarations_in, branches_in, start_in, target_in, clauses_in, handler_in}
 use Rattle.run_trees.specs.WholeRun.{rest_of_run}
 use Rattle.object_heap.specs.Fresh.{filled_objects, built_in_objects}
-
--- ---- a heap with the natives of errors and objects in their places
-
-abbrev set_in : List ObjectView → ℕ → Option ObjectView → List ℕ → Value → List ObjectView
-set_in objects at None key v = objects
-set_in objects at (Some o) key v = slice_set objects at (object_with o key (value_property v false true))
-
-abbrev put_at : ℕ → List ℕ → ℕ → List ObjectView → List ObjectView
-put_at at key id objects = set_in objects at (slice_get objects at) key (value.Object (record { 0 = id }))
-
-abbrev with_natives : List ObjectView
-with_natives =
-    put_at 2 (codes "Error") 17 (put_at 2 (codes "TypeError") 18 (put_at 2 (codes "RangeError") 19
-    (put_at 7 (codes "constructor") 17 (put_at 7 (codes "toString") 21 (put_at 0 (codes "toString") 22 (put_at 0 (codes "valueOf") 23
-    (fresh_heap.objects ++ native_object 10 ∷ native_object 11 ∷ native_object 12 ∷ [])))))))
-
--- how the run of a script ends there with so much fuel
-abbrev run_there : ℕ → List ℕ → Result Ending Refusal
-run_there fuel us = script_of_text us >>= λ body.
-    let program = resolved body in
-    let entry : Entry = record { url = codes "http://a/"; host = codes "a"; fuel = fuel } in
-    let state = first_state entry in
-    let heap = state.heap in
-    let tree = script_run program.0 program.1 entry (λ result s. Done (Comes result s)) (record state { heap = record heap { objects = with_natives } }) in
-    Ok (ending_of (whole_run finite.empty tree).end)
-
-abbrev AreRightThere : List Row → Type 0
-AreRightThere rows = map (λ r. run_there r.fuel r.script) rows ≡ map (λ r. r.ends) rows
 
 -- ---- objects
 
@@ -80,7 +40,7 @@ objects =
     row 1000 (doing (codes "return toString();")) (gives (codes "[object Object]")) ∷
     []
 
-pub objects-hold : AreRightThere objects
+pub objects-hold : AreRight objects
 unfolding piece_at tokens_from text_from row_of expect name any_word semicolon a_parameter parameters a_statement a_part expression in_parentheses an_argument arguments item_value an_item named_property a_property function_from function_expression new_arguments new_expression primary a_suffix suffixed postfix unary an_operand chain level conditional assignment evaluated block_from block first_value a_declared var_statement one_branch a_branch otherwise if_statement do_statement while_statement optional_expression for_from for_in_from for_var for_value for_statement return_statement throw_statement clause_from a_case clauses switch_statement catch_part finally_part try_statement function_statement statement deeper script_within expression_in optional_in expressions_in items_in properties_in suffix_in suffixes_in operands_in function_in statement_in otherwise_in statements_in declarations_in branches_in start_in target_in clauses_in handler_in rest_of_run filled_objects built_in_objects expression_node statement_node call_node construct_node load_node evaluation digits
 objects-hold = refl
 
@@ -110,7 +70,7 @@ errors =
     row 1000 (doing (codes "try { null.x; } catch (e) { return '' + (e instanceof TypeError) + (e instanceof RangeError); }")) (gives (codes "truefalse")) ∷
     []
 
-pub errors-hold : AreRightThere errors
+pub errors-hold : AreRight errors
 unfolding piece_at tokens_from text_from row_of expect name any_word semicolon a_parameter parameters a_statement a_part expression in_parentheses an_argument arguments item_value an_item named_property a_property function_from function_expression new_arguments new_expression primary a_suffix suffixed postfix unary an_operand chain level conditional assignment evaluated block_from block first_value a_declared var_statement one_branch a_branch otherwise if_statement do_statement while_statement optional_expression for_from for_in_from for_var for_value for_statement return_statement throw_statement clause_from a_case clauses switch_statement catch_part finally_part try_statement function_statement statement deeper script_within expression_in optional_in expressions_in items_in properties_in suffix_in suffixes_in operands_in function_in statement_in otherwise_in statements_in declarations_in branches_in start_in target_in clauses_in handler_in rest_of_run filled_objects built_in_objects expression_node statement_node call_node construct_node load_node evaluation digits
 errors-hold = refl
 
@@ -128,7 +88,7 @@ cells_of_errors =
     row 1000 (doing (codes "var i; Error(1); for (i = 0; i < 19; i++) [].length = 100000; [].length = 99969; return 'x';")) (fails code.HeapFull (at 1 106)) ∷
     []
 
-pub cells_of_errors-hold : AreRightThere cells_of_errors
+pub cells_of_errors-hold : AreRight cells_of_errors
 unfolding piece_at tokens_from text_from row_of expect name any_word semicolon a_parameter parameters a_statement a_part expression in_parentheses an_argument arguments item_value an_item named_property a_property function_from function_expression new_arguments new_expression primary a_suffix suffixed postfix unary an_operand chain level conditional assignment evaluated block_from block first_value a_declared var_statement one_branch a_branch otherwise if_statement do_statement while_statement optional_expression for_from for_in_from for_var for_value for_statement return_statement throw_statement clause_from a_case clauses switch_statement catch_part finally_part try_statement function_statement statement deeper script_within expression_in optional_in expressions_in items_in properties_in suffix_in suffixes_in operands_in function_in statement_in otherwise_in statements_in declarations_in branches_in start_in target_in clauses_in handler_in rest_of_run filled_objects built_in_objects expression_node statement_node call_node construct_node load_node evaluation digits
 cells_of_errors-hold = refl
 
@@ -142,7 +102,7 @@ depth_of_natives =
     row 10 (doing (codes "Error({toString: function () { return 'm'; }});")) (fails code.FuelSpent (at 1 39)) ∷
     []
 
-pub depth_of_natives-hold : AreRightThere depth_of_natives
+pub depth_of_natives-hold : AreRight depth_of_natives
 unfolding piece_at tokens_from text_from row_of expect name any_word semicolon a_parameter parameters a_statement a_part expression in_parentheses an_argument arguments item_value an_item named_property a_property function_from function_expression new_arguments new_expression primary a_suffix suffixed postfix unary an_operand chain level conditional assignment evaluated block_from block first_value a_declared var_statement one_branch a_branch otherwise if_statement do_statement while_statement optional_expression for_from for_in_from for_var for_value for_statement return_statement throw_statement clause_from a_case clauses switch_statement catch_part finally_part try_statement function_statement statement deeper script_within expression_in optional_in expressions_in items_in properties_in suffix_in suffixes_in operands_in function_in statement_in otherwise_in statements_in declarations_in branches_in start_in target_in clauses_in handler_in rest_of_run filled_objects built_in_objects expression_node statement_node call_node construct_node load_node evaluation digits
 depth_of_natives-hold = refl
 
@@ -154,6 +114,6 @@ texts_of_natives =
     row 2000 (doing (codes "var t = '0123456789abcdef', s = t, i; for (i = 0; i < 14; i++) s += s; for (i = 0; i < 62; i++) s + ''; '' + {}; 'a' + 'bc';")) (fails code.TextSpent (at 1 151)) ∷
     []
 
-pub texts_of_natives-hold : AreRightThere texts_of_natives
+pub texts_of_natives-hold : AreRight texts_of_natives
 unfolding piece_at tokens_from text_from row_of expect name any_word semicolon a_parameter parameters a_statement a_part expression in_parentheses an_argument arguments item_value an_item named_property a_property function_from function_expression new_arguments new_expression primary a_suffix suffixed postfix unary an_operand chain level conditional assignment evaluated block_from block first_value a_declared var_statement one_branch a_branch otherwise if_statement do_statement while_statement optional_expression for_from for_in_from for_var for_value for_statement return_statement throw_statement clause_from a_case clauses switch_statement catch_part finally_part try_statement function_statement statement deeper script_within expression_in optional_in expressions_in items_in properties_in suffix_in suffixes_in operands_in function_in statement_in otherwise_in statements_in declarations_in branches_in start_in target_in clauses_in handler_in rest_of_run filled_objects built_in_objects expression_node statement_node call_node construct_node load_node evaluation digits
 texts_of_natives-hold = refl
