@@ -1,0 +1,4 @@
+use Rattle.js_statements.proofs.for_loop.for_body.Goals as goal
+
+pub returns : goal.returns
+returns c = c.execute.ensures

@@ -1,0 +1,9 @@
+use Rattle.std.proofs.Common.{◌<◌, arith, refl}
+use Rattle.js_statements.proofs.Turns.{do_some}
+use Rattle.js_statements.proofs.loops.do_turn.Goals as goal
+
+pub returns : goal.returns
+returns c = let some : 0 < c.args.turns = omega arith in rw (do_some _ _ _ _ _ some) c.execute.ensures
+
+pub returns-then-turns-eq0 : goal.returns-then-turns-eq0
+returns-then-turns-eq0 c = record { goes = λ last. rw c.if-turns-eq0.true refl; light = tt }

@@ -1,0 +1,9 @@
+use Rattle.std.proofs.Common.{sym}
+use Rattle.js_machine.specs.Moves.{resumed}
+use Rattle.js_statements.proofs.simple.branched.Goals as goal
+
+pub returns-then-to_boolean : goal.returns-then-to_boolean
+returns-then-to_boolean c = rw (sym c.to_boolean.ensures, c.if-to_boolean.true, resumed) c.execute.ensures
+
+pub returns-else-to_boolean : goal.returns-else-to_boolean
+returns-else-to_boolean c = rw (sym c.to_boolean.ensures, c.if-to_boolean.false, resumed) c.branches_from.ensures

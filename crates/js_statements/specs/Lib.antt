@@ -1,0 +1,4 @@
+pub mod Acts
+pub mod Attempts
+pub mod Loops
+pub mod Switches
