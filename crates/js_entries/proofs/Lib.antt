@@ -1,0 +1,4 @@
+pub mod Entering
+pub mod Properties
+pub mod Steps
+pub mod Texts

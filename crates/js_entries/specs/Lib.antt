@@ -1,0 +1,4 @@
+pub mod Entries
+pub mod Globals
+pub mod Names
+pub mod Natives

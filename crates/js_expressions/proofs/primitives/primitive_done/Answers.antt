@@ -1,0 +1,34 @@
+use Rattle.js_expressions.proofs.primitives.primitive_done.Goals as goal
+
+pub returns-in-Plus : goal.returns-in-Plus
+returns-in-Plus c = rw c.in-Plus.is (c.plus.ensures c.args.machine.now)
+
+pub returns-in-Minus : goal.returns-in-Minus
+returns-in-Minus c = rw c.in-Minus.is (c.minus.ensures c.args.machine.now)
+
+pub returns-in-BitNot : goal.returns-in-BitNot
+returns-in-BitNot c = rw c.in-BitNot.is (c.bit_not.ensures c.args.machine.now)
+
+pub returns-in-Update : goal.returns-in-Update
+returns-in-Update c = rw c.in-Update.is c.update_by.ensures
+
+pub returns-in-Index : goal.returns-in-Index
+returns-in-Index c = rw c.in-Index.is c.index_by.ensures
+
+pub returns-in-Key : goal.returns-in-Key
+returns-in-Key c = rw c.in-Key.is c.key_by.ensures
+
+pub returns-in-In : goal.returns-in-In
+returns-in-In c = rw c.in-In.is c.with_in.ensures
+
+pub returns-in-Left : goal.returns-in-Left
+returns-in-Left c = rw c.in-Left.is c.right_operand.ensures
+
+pub returns-in-Right : goal.returns-in-Right
+returns-in-Right c = rw c.in-Right.is c.operated.ensures
+
+pub returns-in-Message : goal.returns-in-Message
+returns-in-Message c = rw c.in-Message.is c.error_by.ensures
+
+pub returns-in-ErrorName : goal.returns-in-ErrorName
+returns-in-ErrorName c = rw c.in-ErrorName.is c.error_named.ensures

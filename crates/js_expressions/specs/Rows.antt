@@ -1,0 +1,32 @@
+-- Rows of operators (ECMA-262 5.1, section 11.11).
+use Rattle.std.specs.Prelude.{List, Bool, false, not}
+use Rattle.std.specs.Borrow.{Bor}
+use Rattle.js_tree.specs.declared.operators.BinaryOp.{BinaryOp}
+use Rattle.js_tree.specs.declared.operators.BinaryOp.TheVariants as op
+use Rattle.js_tree.specs.declared.expression.Operand.{Operand}
+use Rattle.js_tree.specs.Tree.{FunctionTree}
+use Rattle.js_tree.specs.View.{operands_of}
+use Rattle.heap_values.specs.declared.value.Value.{Value}
+use Rattle.js_convert.specs.Numeric.{truth_of}
+use Rattle.run_trees.specs.Runs.{◌>>=◌}
+use Rattle.js_evaluation.specs.State.{Does}
+use Rattle.js_evaluation.specs.Objects.{Context}
+use Rattle.js_evaluation.specs.Conversions as convert
+use Rattle.js_frames.specs.Rules as rule
+use Rattle.js_frames.specs.Rules.{Within}
+
+-- whether the value before `||` or `&&` decides
+abbrev pub decides : BinaryOp → Value → Bool
+decides op.Or v = truth_of v
+decides op.And v = not (truth_of v)
+decides o v = false
+
+module _ (functions : List FunctionTree) (go : Within) (cx : Context) where
+  -- an operand that is evaluated, by its operator
+  abbrev pub operand_by : BinaryOp → Value → Operand → Does Value
+  operand_by op.Or v x = rule.visit functions go cx x.value
+  operand_by op.And v x = rule.visit functions go cx x.value
+  operand_by o v x = rule.visit functions go cx x.value >>= (λ w. convert.binary (rule.call functions go cx) o v w x.place)
+
+  abbrev pub operand_of : Value → Operand → Bor (List Operand) → Does Value
+  operand_of v x rest = operand_by x.op v x >>= (λ w. rule.operands_from functions go cx w (operands_of rest.now))

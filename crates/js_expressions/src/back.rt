@@ -1,0 +1,145 @@
+// What comes back to an open expression.
+ghost use Rattle.js_frames.specs.RestOf.{after_expression, after_suffix};
+ghost use Rattle.js_machine.specs.Moves.{Moves, at};
+
+use crate::assignments::{assigned_operand, target_done, value_done};
+use crate::calls::argument_done;
+use crate::choices::{chosen, comma_from};
+use crate::creation::{called_new, new_argument_done};
+use crate::literals::{item_done, property_done};
+use crate::primitives::primitive;
+use crate::rows::{operand_done, operands_from};
+use crate::suffixes::{called, first_done, index_done, key_done};
+use crate::unary::{name_deleted, name_type, target_deleted, type_done};
+use crate::updates::update_done;
+use heap_values::Value;
+use js_convert::to_boolean;
+use js_frames::{ExpressionFrame, Methods, SuffixFrame, Wanted};
+use js_machine::{Machine, Now, Step};
+
+/// A part within an expression has a value.
+pub fn expression_back<'p>(
+    machine: &mut Machine<'p>,
+    part: ExpressionFrame<'p>,
+    value: Value,
+) -> Step<'p>
+    ensures { Moves (at machine.old after_expression part.entry value) machine.old result machine.new }
+{
+    match part {
+        ExpressionFrame::Item {
+            array,
+            count,
+            rest,
+            place,
+        } => item_done(machine, array, count, rest, place, value),
+        ExpressionFrame::Property {
+            object,
+            name,
+            rest,
+            place,
+        } => property_done(machine, object, name, rest, place, value),
+        ExpressionFrame::Callee { left, place } => called_new(machine, value, left, place),
+        ExpressionFrame::NewArgument {
+            callee,
+            done,
+            left,
+            place,
+        } => new_argument_done(machine, callee, done, left, place, value),
+        ExpressionFrame::UpdateTarget {
+            form,
+            op,
+            target,
+            place,
+        } => update_done(machine, form, op, target, place, &value),
+        ExpressionFrame::DeleteName { name, place } => name_deleted(machine, name, place),
+        ExpressionFrame::DeleteTarget { place } => target_deleted(machine, &value, place),
+        ExpressionFrame::DeleteValue => Ok(Now::Back(Ok(Value::Bool(true)))),
+        ExpressionFrame::Void => Ok(Now::Back(Ok(Value::Undefined))),
+        ExpressionFrame::TypeOfName { name, place } => name_type(machine, name, place),
+        ExpressionFrame::TypeOf => type_done(machine, &value),
+        ExpressionFrame::Plus { place } => {
+            primitive(
+                machine,
+                Methods::ForNumber,
+                value,
+                place,
+                Wanted::Plus { place },
+            )
+        }
+        ExpressionFrame::Minus { place } => {
+            primitive(
+                machine,
+                Methods::ForNumber,
+                value,
+                place,
+                Wanted::Minus { place },
+            )
+        }
+        ExpressionFrame::BitNot { place } => {
+            primitive(
+                machine,
+                Methods::ForNumber,
+                value,
+                place,
+                Wanted::BitNot { place },
+            )
+        }
+        ExpressionFrame::Not => Ok(Now::Back(Ok(Value::Bool(!to_boolean(&value))))),
+        ExpressionFrame::Row { rest } => operands_from(machine, value, rest),
+        ExpressionFrame::Operand {
+            op,
+            left,
+            place,
+            rest,
+        } => operand_done(machine, op, left, place, rest, value),
+        ExpressionFrame::Conditional { held, otherwise } => {
+            chosen(machine, &value, held, otherwise)
+        }
+        ExpressionFrame::AssignTarget {
+            op,
+            target,
+            value: e,
+            place,
+        } => target_done(machine, op, target, e, place, &value),
+        ExpressionFrame::AssignValue { reference, place } => {
+            value_done(machine, &reference, place, value)
+        }
+        ExpressionFrame::AssignOperand {
+            op,
+            old,
+            reference,
+            place,
+        } => assigned_operand(machine, op, old, reference, place, value),
+        ExpressionFrame::Comma { rest } => comma_from(machine, value, rest),
+    }
+}
+
+/// A part within an expression with suffixes has a value.
+pub fn suffix_back<'p>(machine: &mut Machine<'p>, part: SuffixFrame<'p>, value: Value) -> Step<'p>
+    ensures { Moves (at machine.old after_suffix part.entry value) machine.old result machine.new }
+{
+    match part {
+        SuffixFrame::First {
+            aim,
+            first,
+            suffixes,
+        } => first_done(machine, aim, first, suffixes, value),
+        SuffixFrame::Index {
+            aim,
+            base,
+            place,
+            rest,
+        } => index_done(machine, aim, base, place, rest, value),
+        SuffixFrame::Key { base, place } => key_done(machine, base, place, value),
+        SuffixFrame::Argument {
+            aim,
+            this,
+            callee,
+            done,
+            left,
+            place,
+            rest,
+        } => argument_done(machine, aim, this, callee, done, left, place, rest, value),
+        SuffixFrame::Called { aim, rest } => called(machine, aim, value, rest),
+    }
+}

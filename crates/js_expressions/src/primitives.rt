@@ -1,0 +1,209 @@
+// Objects as primitive values (ECMA-262 5.1, sections 8.12.8 and 9.1), and what these are wanted for.
+ghost use Rattle.std.specs.Prelude.{◌≡◌, ◌∷◌, [], MatchOption, Ok, neg_ℤ, negsuc, ◌-ℤ◌};
+ghost use Rattle.js_frames.specs.Parts.{names_of};
+ghost use Rattle.js_frames.specs.RestOf.{with_primitive};
+ghost use Rattle.js_frames.specs.declared.frame.Frame.TheVariants as frame;
+ghost use Rattle.js_frames.specs.declared.wanted.Wanted.TheVariants as wanted;
+ghost use Rattle.js_machine.specs.declared.machine.Machine.{Machine};
+ghost use Rattle.js_machine.specs.Moves.{Moves, at, resumed};
+ghost use Rattle.js_expressions.specs.Primitives as spec;
+
+use crate::errors::{error_by, error_named, error_text, type_error};
+use crate::operators::{operated, right_operand, with_in};
+use crate::suffixes::suffixes_from;
+use crate::updates::update_by;
+use heap_steps::{bits_or_fault, callable, get, number_or_fault};
+use heap_values::{ObjectId, Value};
+use js_convert::{to_number, to_text};
+use js_frames::{Aim, Frame, Methods, Wanted};
+use js_machine::{Machine, Now, Step};
+use js_tree::{Place, Suffix};
+use utf16_text::{List, Text};
+use whole_number::Whole;
+
+/// A primitive value, for what it is wanted for: an object is asked by its methods.
+pub fn primitive<'p>(
+    machine: &mut Machine<'p>,
+    methods: Methods,
+    value: Value,
+    place: Place,
+    wanted: Wanted<'p>,
+) -> Step<'p>
+    ensures { Moves (at machine.old spec.primitive (names_of methods) value place wanted.entry) machine.old result machine.new }
+{
+    match value {
+        Value::Object(object) => convert(machine, methods, object, place, wanted),
+        value => primitive_done(machine, wanted, value),
+    }
+}
+
+/// The next of the methods that are to be asked, and those behind it.
+fn next_method(methods: Methods) -> Option<(&'static [u8], Methods)>
+    ensures { MatchOption result (names_of methods ≡ []) (λ next. names_of methods ≡ next.0.now ∷ names_of next.1) }
+{
+    match methods {
+        Methods::ForNumber => Some((b"valueOf", Methods::ToString)),
+        Methods::ForText => Some((b"toString", Methods::ValueOf)),
+        Methods::ToString => Some((b"toString", Methods::None)),
+        Methods::ValueOf => Some((b"valueOf", Methods::None)),
+        Methods::None => None,
+    }
+}
+
+/// Asks the methods of an object in their order. One counts where it can be called.
+pub fn convert<'p>(
+    machine: &mut Machine<'p>,
+    methods: Methods,
+    object: ObjectId,
+    place: Place,
+    wanted: Wanted<'p>,
+) -> Step<'p>
+    ensures { Moves (at machine.old spec.converted (names_of methods) object place wanted.entry) machine.old result machine.new }
+{
+    let mut left = methods;
+    while let Some((name, methods)) = next_method(left) {
+        let name = Text::from_latin_1(machine.alloc, name)?;
+        let heap = &mut machine.state.heap;
+        let method = get(machine.alloc, heap, &Value::Object(object), &name, place)?;
+        match callable(heap, &method) {
+            None => left = methods,
+            Some(function) => {
+                let frame = Frame::Primitive {
+                    object,
+                    methods,
+                    place,
+                    wanted,
+                };
+                let arguments = List::new(machine.alloc);
+                return machine.call(function, Value::Object(object), arguments, place, frame);
+            }
+        }
+    }
+    type_error(machine, b"not an object", place)
+}
+
+/// A method of an object gave this value: a primitive one is taken.
+pub fn method_done<'p>(
+    machine: &mut Machine<'p>,
+    object: ObjectId,
+    methods: Methods,
+    place: Place,
+    wanted: Wanted<'p>,
+    value: Value,
+) -> Step<'p>
+    ensures { Moves (at machine.old resumed (frame.Primitive object methods place wanted.entry) (Ok value)) machine.old result machine.new }
+{
+    match value {
+        Value::Object(_) => convert(machine, methods, object, place, wanted),
+        value => primitive_done(machine, wanted, value),
+    }
+}
+
+/// What is wanted of a primitive value is done with it.
+fn primitive_done<'p>(machine: &mut Machine<'p>, wanted: Wanted<'p>, value: Value) -> Step<'p>
+    ensures { Moves (at machine.old with_primitive wanted.entry value) machine.old result machine.new }
+{
+    match wanted {
+        Wanted::Plus { place } => plus(&value, place),
+        Wanted::Minus { place } => minus(&value, place),
+        Wanted::BitNot { place } => bit_not(&value, place),
+        Wanted::Update {
+            form,
+            op,
+            reference,
+            place,
+        } => update_by(machine, form, op, reference, place, &value),
+        Wanted::Index {
+            aim,
+            base,
+            place,
+            rest,
+        } => index_by(machine, aim, base, place, rest, &value),
+        Wanted::Key { base } => key_by(machine, base, &value),
+        Wanted::In {
+            object,
+            place,
+            next,
+        } => with_in(machine, object, &value, place, next),
+        Wanted::Left {
+            op,
+            right,
+            place,
+            next,
+        } => right_operand(machine, op, value, right, place, next),
+        Wanted::Right {
+            op,
+            left,
+            place,
+            next,
+        } => operated(machine, op, &left, &value, place, next),
+        Wanted::Message { prototype, place } => error_by(machine, prototype, &value, place),
+        Wanted::ErrorName { error, place } => error_named(machine, error, &value, place),
+        Wanted::ErrorMessage { name, place } => error_text(machine, &name, &value, place),
+    }
+}
+
+/// `+` before a value (ECMA-262 5.1, section 11.4.6).
+fn plus<'p>(value: &Value, place: Place) -> Step<'p>
+    ensures { (m : Machine) → Moves (at m with_primitive (wanted.Plus place) value.now) m result m }
+{
+    let number = number_or_fault(to_number(value), place)?;
+    Ok(Now::Back(Ok(Value::Number(number))))
+}
+
+/// `-` before a value (ECMA-262 5.1, section 11.4.7).
+fn minus<'p>(value: &Value, place: Place) -> Step<'p>
+    ensures { (m : Machine) → Moves (at m with_primitive (wanted.Minus place) value.now) m result m }
+{
+    let number = number_or_fault(to_number(value), place)?;
+    Ok(Now::Back(Ok(Value::Number(negative(number)))))
+}
+
+fn negative(number: Whole) -> Whole
+    ensures { result ≡ neg_ℤ number }
+{
+    match Whole::new(-number.get()) {
+        Some(negative) => negative,
+        None => number,
+    }
+}
+
+/// `~` before a value (ECMA-262 5.1, section 11.4.8).
+fn bit_not<'p>(value: &Value, place: Place) -> Step<'p>
+    ensures { (m : Machine) → Moves (at m with_primitive (wanted.BitNot place) value.now) m result m }
+{
+    let bits = bits_or_fault(to_number(value), place)?;
+    Ok(Now::Back(Ok(Value::Number(Whole::from(inverted(bits))))))
+}
+
+fn inverted(bits: i32) -> i32
+    ensures { result ≡ negsuc 0 -ℤ bits }
+{
+    -1 - bits
+}
+
+/// The property of a base under a name, and then the suffixes behind it.
+fn index_by<'p>(
+    machine: &mut Machine<'p>,
+    aim: Aim,
+    base: Value,
+    place: Place,
+    rest: &'p [Suffix],
+    name: &Value,
+) -> Step<'p>
+    ensures { Moves (at machine.old with_primitive (wanted.Index aim base place rest.entry) name.now) machine.old result machine.new }
+{
+    let name = to_text(machine.alloc, name)?;
+    let heap = &mut machine.state.heap;
+    let value = get(machine.alloc, heap, &base, &name, place)?;
+    suffixes_from(machine, aim, base, value, rest)
+}
+
+/// The key of a target: its base stays.
+fn key_by<'p>(machine: &mut Machine<'p>, base: Value, name: &Value) -> Step<'p>
+    ensures { Moves (at machine.old with_primitive (wanted.Key base) name.now) machine.old result machine.new }
+{
+    let key = to_text(machine.alloc, name)?;
+    machine.state.base = base;
+    Ok(Now::Back(Ok(Value::Text(key))))
+}

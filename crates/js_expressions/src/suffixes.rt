@@ -1,0 +1,235 @@
+// Members, indexes and calls, and targets of writes (ECMA-262 5.1, sections 8.7 and 11.2).
+ghost use Rattle.std.specs.Prelude.{◌≡◌, IfOk};
+ghost use Rattle.js_tree.specs.Tree.{no_suffix};
+ghost use Rattle.js_tree.specs.View.{suffix_of, suffixes_of};
+ghost use Rattle.js_evaluation.specs.State.{global_object};
+ghost use Rattle.js_frames.specs.RestOf.{after_suffix, suffixes_by};
+ghost use Rattle.js_frames.specs.declared.frame.Frame.TheVariants as frame;
+ghost use Rattle.js_frames.specs.declared.expression_frame.SuffixFrame.TheVariants as of_suffix;
+ghost use Rattle.heap_steps.specs.Works.{Works};
+ghost use Rattle.js_machine.specs.Moves.{Moves, at, evaluated};
+ghost use Rattle.js_expressions.specs.Suffixes as spec;
+
+use crate::calls::first_arguments;
+use crate::primitives::primitive;
+use heap_steps::{Halt, get, test_base};
+use heap_values::{BuiltIn, Value};
+use js_frames::{Aim, Frame, Methods, SuffixFrame, Wanted};
+use js_machine::{Machine, Now, Step, charge};
+use js_tree::{Expression, ExpressionNode, Place, Suffix, SuffixNode};
+use object_heap::Heap;
+use std::alloc::Global;
+use utf16_text::{Memory, Text};
+
+/// An expression with suffixes: first what they are applied to.
+pub fn suffixed<'p>(
+    machine: &mut Machine<'p>,
+    aim: Aim,
+    first: &'p Expression,
+    suffixes: &'p [Suffix],
+) -> Step<'p>
+    ensures { Moves (at machine.old evaluated first.entry.now (frame.Suffix (of_suffix.First aim first.entry suffixes.entry))) machine.old result machine.new }
+{
+    let frame = SuffixFrame::First {
+        aim,
+        first,
+        suffixes,
+    };
+    machine.evaluate(first, Frame::Suffix(frame))
+}
+
+/// The global object.
+fn global_value(heap: &Heap) -> Value
+    ensures { result ≡ global_object }
+{
+    Value::Object(heap.built_in(BuiltIn::Global))
+}
+
+/// The `this` of a call of an expression as it stands: the base of the reference that it is, where it is one.
+fn this_behind(
+    alloc: Global,
+    heap: &Heap,
+    base: &Value,
+    first: &Expression,
+) -> Result<Value, Memory>
+    ensures { IfOk result (λ this. this ≡ spec.this_by first.now base.now) }
+{
+    match &first.node {
+        ExpressionNode::Suffixed(_, _) => base.copy(alloc),
+        _ => Ok(global_value(heap)),
+    }
+}
+
+/// What suffixes are applied to has this value.
+pub fn first_done<'p>(
+    machine: &mut Machine<'p>,
+    aim: Aim,
+    first: &'p Expression,
+    suffixes: &'p [Suffix],
+    value: Value,
+) -> Step<'p>
+    ensures { Moves (at machine.old after_suffix (of_suffix.First aim first.entry suffixes.entry) value) machine.old result machine.new }
+{
+    let state = &machine.state;
+    let this = this_behind(machine.alloc, &state.heap, &state.base, first)?;
+    suffixes_from(machine, aim, this, value, suffixes)
+}
+
+/// Suffixes, each charged where it is applied. The base of the last one stays; the last one of a target isn't read.
+pub fn suffixes_from<'p>(
+    machine: &mut Machine<'p>,
+    aim: Aim,
+    this: Value,
+    value: Value,
+    suffixes: &'p [Suffix],
+) -> Step<'p>
+    ensures { Moves (at machine.old suffixes_by aim this value (suffixes_of suffixes.entry.now)) machine.old result machine.new }
+{
+    let mut this = this;
+    let mut value = value;
+    let mut left = suffixes;
+    while let [suffix, rest @ ..] = left {
+        let place = suffix.place;
+        charge(&mut machine.state.fuel, place)?;
+        if is_last(aim, rest) {
+            return last_of_target(machine, value, suffix);
+        }
+        match &suffix.node {
+            SuffixNode::Member(name) => {
+                let heap = &mut machine.state.heap;
+                let found = member(machine.alloc, heap, &value, name, place)?;
+                this = value;
+                value = found;
+                left = rest;
+            }
+            SuffixNode::Index(e) => return index(machine, aim, value, e, place, rest),
+            SuffixNode::Call(all) => {
+                return first_arguments(machine, aim, this, value, all, place, rest);
+            }
+        }
+    }
+    behind_suffixes(machine, aim, this, value)
+}
+
+/// Whether the suffix before these is the last one of a target.
+fn is_last(aim: Aim, rest: &[Suffix]) -> bool
+    ensures { result ≡ spec.is_last aim rest.now }
+{
+    match aim {
+        Aim::Value => false,
+        Aim::Target => rest.is_empty(),
+    }
+}
+
+/// No suffix is left: the base of the last one stays.
+fn behind_suffixes<'p>(machine: &mut Machine<'p>, aim: Aim, this: Value, value: Value) -> Step<'p>
+    ensures { Moves (at machine.old suffixes_by aim this value no_suffix) machine.old result machine.new }
+{
+    match aim {
+        Aim::Value => {
+            machine.state.base = this;
+            Ok(Now::Back(Ok(value)))
+        }
+        Aim::Target => Ok(Now::Back(Ok(Value::Undefined))),
+    }
+}
+
+/// A member of a value.
+fn member(
+    alloc: Global,
+    heap: &mut Heap,
+    base: &Value,
+    name: &Text,
+    place: Place,
+) -> Result<Value, Halt>
+    ensures { Works (spec.member base.now name.now place) heap.old result heap.new }
+{
+    test_base(alloc, heap, base, place)?;
+    get(alloc, heap, base, name, place)
+}
+
+/// The index of a value.
+fn index<'p>(
+    machine: &mut Machine<'p>,
+    aim: Aim,
+    base: Value,
+    index: &'p Expression,
+    place: Place,
+    rest: &'p [Suffix],
+) -> Step<'p>
+    ensures { Moves (at machine.old evaluated index.entry.now (frame.Suffix (of_suffix.Index aim base place rest.entry))) machine.old result machine.new }
+{
+    let frame = SuffixFrame::Index {
+        aim,
+        base,
+        place,
+        rest,
+    };
+    machine.evaluate(index, Frame::Suffix(frame))
+}
+
+/// The last suffix of a target: its base stays, and its key is given.
+fn last_of_target<'p>(machine: &mut Machine<'p>, base: Value, suffix: &'p Suffix) -> Step<'p>
+    ensures { Moves (at machine.old spec.last_at base (suffix_of suffix.entry.now.place suffix.entry.now.node)) machine.old result machine.new }
+{
+    let place = suffix.place;
+    match &suffix.node {
+        SuffixNode::Member(name) => {
+            let heap = &mut machine.state.heap;
+            test_base(machine.alloc, heap, &base, place)?;
+            let key = name.copy(machine.alloc)?;
+            machine.state.base = base;
+            Ok(Now::Back(Ok(Value::Text(key))))
+        }
+        SuffixNode::Index(e) => {
+            let frame = SuffixFrame::Key { base, place };
+            machine.evaluate(e, Frame::Suffix(frame))
+        }
+        SuffixNode::Call(_) => Ok(Now::Back(Ok(Value::Undefined))),
+    }
+}
+
+/// The index of a base has this value, which becomes a text.
+pub fn index_done<'p>(
+    machine: &mut Machine<'p>,
+    aim: Aim,
+    base: Value,
+    place: Place,
+    rest: &'p [Suffix],
+    value: Value,
+) -> Step<'p>
+    ensures { Moves (at machine.old after_suffix (of_suffix.Index aim base place rest.entry) value) machine.old result machine.new }
+{
+    let heap = &mut machine.state.heap;
+    test_base(machine.alloc, heap, &base, place)?;
+    let wanted = Wanted::Index {
+        aim,
+        base,
+        place,
+        rest,
+    };
+    primitive(machine, Methods::ForText, value, place, wanted)
+}
+
+/// The index of the last suffix of a target has this value.
+pub fn key_done<'p>(machine: &mut Machine<'p>, base: Value, place: Place, value: Value) -> Step<'p>
+    ensures { Moves (at machine.old after_suffix (of_suffix.Key base place) value) machine.old result machine.new }
+{
+    let heap = &mut machine.state.heap;
+    test_base(machine.alloc, heap, &base, place)?;
+    primitive(
+        machine,
+        Methods::ForText,
+        value,
+        place,
+        Wanted::Key { base },
+    )
+}
+
+/// A call has this value; what is behind it has the global object as its `this`.
+pub fn called<'p>(machine: &mut Machine<'p>, aim: Aim, value: Value, rest: &'p [Suffix]) -> Step<'p>
+    ensures { Moves (at machine.old after_suffix (of_suffix.Called aim rest.entry) value) machine.old result machine.new }
+{
+    let this = global_value(&machine.state.heap);
+    suffixes_from(machine, aim, this, value, rest)
+}

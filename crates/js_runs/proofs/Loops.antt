@@ -1,0 +1,152 @@
+-- The loop of a run: each step keeps what is left of it.
+use Rattle.std.proofs.Common.{◌≡◌, ℕ, ◌+◌, ◌<◌, List, Ok, Err, Result, refl, subst, ap, sym, ◌∙◌, arith}
+use Rattle.std.specs.Result.{IsErrAnd}
+use Rattle.js_tree.specs.declared.place.Place.{Place}
+use Rattle.heap_values.specs.declared.ids.ObjectId.{ObjectId}
+use Rattle.heap_values.specs.declared.value.Value.{Value}
+use Rattle.run_trees.specs.declared.abrupt.Abrupt.TheVariants as ending
+use Rattle.run_trees.specs.RunTree.{RunTree, Done}
+use Rattle.js_evaluation.specs.declared.thrown.Thrown.{Thrown}
+use Rattle.js_evaluation.specs.State.{RunEnd, Comes, Stop}
+use Rattle.js_evaluation.specs.Evaluation.{part_place, node, outer_scope, outside}
+use Rattle.js_frames.specs.Rules.{AfterValue}
+use Rattle.js_frames.specs.Parts.{context_of}
+use Rattle.heap_steps.specs.declared.halt.Halt.{Halt}
+use Rattle.heap_steps.specs.declared.halt.Halt.TheVariants as halt
+use Rattle.js_machine.specs.declared.machine.Machine.{Machine}
+use Rattle.js_machine.specs.declared.now.Now.{Now}
+use Rattle.js_machine.specs.declared.now.Now.TheVariants as now
+use Rattle.js_machine.specs.declared.now.Part.{Part}
+use Rattle.js_machine.specs.Moves.{Goes, Light, Moves, Descended, Descends, functions_of, inner, part_of, present, weight, waits}
+use Rattle.js_machine.specs.declared.now.Part.TheVariants as part
+use Rattle.js_machine.specs.Moves.{at}
+use Rattle.js_frames.specs.declared.frame.Context.{Context as Around}
+use Rattle.js_frames.specs.Rules as rule
+use Rattle.js_evaluation.specs.Expressions.{expression_place}
+use Rattle.js_evaluation.specs.Statements.{statement_place, statement_node as statement_rule}
+use Rattle.js_tree.specs.View.{expression_of, statement_of, declarations_of}
+use Rattle.js_tree.specs.Tree.{ExpressionTree, StatementTree, statements_of}
+use Rattle.js_tree.specs.declared.statement.Declared.{Declared}
+use Rattle.js_tree.specs.declared.expression.ExpressionNode.{ExpressionNode}
+use Rattle.js_tree.specs.declared.expression.ExpressionNode.TheVariants as expression_node
+use Rattle.js_tree.specs.declared.expression.FunctionPart.TheVariants as function_part
+use Rattle.js_tree.specs.declared.statement.StatementNode.{StatementNode}
+use Rattle.js_tree.specs.declared.statement.StatementNode.TheVariants as statement_node
+use Rattle.std.specs.Borrow.{Bor}
+use Rattle.js_runs.specs.Closes.{Begins, Closed, Closes, handed_on}
+
+module _ (part : Part) (place : Place) (m : Machine) where
+  -- where the part is charged and has room, its rule goes on
+  pub begins_with : (begun : Machine) (r : Result Now Halt) (m' : Machine) → part_place (part_of (context_of m.context) part) ≡ place
+      → Descended place m begun → Moves (node (functions_of begun) (inner begun) (part_of (context_of m.context) part)) begun r m'
+      → Begins part m r m'
+  begins_with begun (Ok what) m' here d k = record { goes = λ last. d.goes_in last _ here ∙ k.goes last; light = omega (arith, d.less, k.light) }
+  begins_with begun (Err (halt.Throw t)) m' here d k = record { goes = λ last. d.goes_in last _ here ∙ k.goes last; light = omega (arith, d.less, k.light) }
+  begins_with begun (Err (halt.Fault c p)) m' here d k = record { goes = λ last. d.goes_in last _ here ∙ k.goes last; light = tt }
+  begins_with begun (Err (halt.LeftOut n p)) m' here d k = record { goes = λ last. d.goes_in last _ here ∙ k.goes last; light = tt }
+  begins_with begun (Err halt.Memory) m' here d k = record { goes = λ last. tt; light = tt }
+
+  stops_with : (e : Halt) (m' : Machine) → part_place (part_of (context_of m.context) part) ≡ place → Descends place m (Err e) m' → Begins part m (Err e) m'
+  stops_with (halt.Throw t) m' here d = absurd (d (λ r s. Done (Comes r s)) (part_of (context_of m.context) part) here)
+  stops_with (halt.Fault c p) m' here d = record { goes = λ last. d last (part_of (context_of m.context) part) here; light = tt }
+  stops_with (halt.LeftOut n p) m' here d = record { goes = λ last. d last (part_of (context_of m.context) part) here; light = tt }
+  stops_with halt.Memory m' here d = record { goes = λ last. tt; light = tt }
+
+  -- where it isn't, the run is at its end
+  pub begins_stopped : (r : Result Now Halt) (e : Halt) (m' : Machine) → IsErrAnd r (λ x. x ≡ e)
+      → part_place (part_of (context_of m.context) part) ≡ place → Descends place m (Err e) m' → Begins part m r m'
+  begins_stopped (Ok what) e m' i here d = absurd i
+  begins_stopped (Err x) e m' i here d = subst (λ y. Begins part m (Err y) m') (sym i) (stops_with e m' here d)
+
+-- ---- the kinds of parts
+
+pub expression_stands : (p : Place) (n : ExpressionNode) → expression_place (expression_of p n) ≡ p
+expression_stands p (expression_node.Function (function_part.Whole f)) = refl
+expression_stands p (expression_node.Function (function_part.Numbered n)) = refl
+expression_stands p n = refl
+
+pub statement_stands : (p : Place) (n : StatementNode) → statement_place (statement_of p n) ≡ p
+statement_stands p (statement_node.Function x (function_part.Whole f)) = refl
+statement_stands p (statement_node.Function x (function_part.Numbered n)) = refl
+statement_stands p n = refl
+
+module _ (place : Place) (m begun : Machine) (r : Result Now Halt) (m' : Machine) (d : Descended place m begun) where
+  pub begins_expression : (e : Bor ExpressionTree) → expression_place e.now ≡ place
+      → Moves (at begun rule.expression_node e.now) begun r m' → Begins (part.Expression e) m r m'
+  begins_expression e here k = begins_with (part.Expression e) place m begun r m' here d
+      (subst (λ (cx : Around). Moves (rule.expression_node (functions_of begun) (inner begun) (context_of cx) e.now) begun r m') d.around k)
+
+  pub begins_statement : (s : Bor StatementTree) → statement_place s.now ≡ place
+      → Moves (at begun rule.statement_node s.now) begun r m' → Begins (part.Statement s) m r m'
+  begins_statement s here k = begins_with (part.Statement s) place m begun r m' here d
+      (subst (λ (cx : Around). Moves (rule.statement_node (functions_of begun) (inner begun) (context_of cx) s.now) begun r m') d.around k)
+
+  pub begins_target : (e : Bor ExpressionTree) → expression_place e.now ≡ place
+      → Moves (at begun rule.target_node e.now) begun r m' → Begins (part.Target e) m r m'
+  begins_target e here k = begins_with (part.Target e) place m begun r m' here d
+      (subst (λ (cx : Around). Moves (rule.target_node (functions_of begun) (inner begun) (context_of cx) e.now) begun r m') d.around k)
+
+  pub begins_declare : (all : Bor (List Declared)) → Moves (at begun rule.variables_from place (declarations_of all.now)) begun r m'
+      → Begins (part.Declare place all) m r m'
+  unfolding statement_rule
+  begins_declare all k = begins_with (part.Declare place all) place m begun r m' refl d
+      (subst (λ (cx : Around). Moves (rule.variables_from (functions_of begun) (inner begun) (context_of cx) place (declarations_of all.now)) begun r m') d.around k)
+
+  pub begins_call : (f : ObjectId) (this : Value) (vs : List Value) → Moves (at begun rule.call_node f this vs place) begun r m'
+      → Begins (part.Call f this vs place) m r m'
+  begins_call f this vs k = begins_with (part.Call f this vs place) place m begun r m' refl d k
+
+  pub begins_construct : (f : ObjectId) (vs : List Value) → Moves (at begun rule.construct_node f vs place) begun r m'
+      → Begins (part.Construct f vs place) m r m'
+  begins_construct f vs k = begins_with (part.Construct f vs place) place m begun r m' refl d k
+
+  pub begins_load : (body : Bor (List StatementTree)) → place ≡ outside
+      → Moves (at begun rule.load_node outer_scope (statements_of body.now) outside) begun r m' → Begins (part.Load body) m r m'
+  begins_load body here k = begins_with (part.Load body) place m begun r m' (sym here) d k
+
+-- ---- steps of the loop
+
+-- what a step makes of the run, it makes where what is thrown is handed on
+pub goes_on : (last : AfterValue) (tree : RunTree RunEnd) (r : Result Now Halt) (what : Now) (m : Machine) → handed_on r ≡ Ok what → Goes last tree r m → tree ≡ present last m what
+goes_on last tree (Ok w) what m e g = let i : w ≡ what = cc in g ∙ ap (present last m) i
+goes_on last tree (Err (halt.Throw t)) what m e g = let i : now.Back (Err (ending.Thrown t)) ≡ what = cc in g ∙ ap (present last m) i
+goes_on last tree (Err (halt.Fault c p)) what m e g = cc
+goes_on last tree (Err (halt.LeftOut n p)) what m e g = cc
+goes_on last tree (Err halt.Memory) what m e g = cc
+
+pub lighter : (bound : ℕ) (r : Result Now Halt) (what : Now) (m : Machine) → handed_on r ≡ Ok what → Light bound r m → weight m + waits what < bound
+lighter bound (Ok w) what m e l = let i : w ≡ what = cc in subst (λ (x : Now). weight m + waits x < bound) i l
+lighter bound (Err (halt.Throw t)) what m e l = let i : now.Back (Err (ending.Thrown t)) ≡ what = cc in subst (λ (x : Now). weight m + waits x < bound) i l
+lighter bound (Err (halt.Fault c p)) what m e l = cc
+lighter bound (Err (halt.LeftOut n p)) what m e l = cc
+lighter bound (Err halt.Memory) what m e l = cc
+
+-- where a step stops, so does the run
+closed_by : (last : AfterValue) (tree : RunTree RunEnd) (r : Result Now Halt) (e : Halt) (m : Machine) → handed_on r ≡ Err e → Goes last tree r m → Closed last tree (Err e) m
+closed_by last tree (Ok w) e m h g = cc
+closed_by last tree (Err (halt.Throw t)) e m h g = cc
+closed_by last tree (Err (halt.Fault c p)) (halt.Fault c' p') m h g = g ∙ cc
+closed_by last tree (Err (halt.Fault c p)) (halt.Throw t) m h g = cc
+closed_by last tree (Err (halt.Fault c p)) (halt.LeftOut n q) m h g = cc
+closed_by last tree (Err (halt.Fault c p)) halt.Memory m h g = tt
+closed_by last tree (Err (halt.LeftOut n p)) (halt.LeftOut n' p') m h g = g ∙ cc
+closed_by last tree (Err (halt.LeftOut n p)) (halt.Throw t) m h g = cc
+closed_by last tree (Err (halt.LeftOut n p)) (halt.Fault c q) m h g = cc
+closed_by last tree (Err (halt.LeftOut n p)) halt.Memory m h g = tt
+closed_by last tree (Err halt.Memory) (halt.Throw t) m h g = cc
+closed_by last tree (Err halt.Memory) (halt.Fault c q) m h g = cc
+closed_by last tree (Err halt.Memory) (halt.LeftOut n q) m h g = cc
+closed_by last tree (Err halt.Memory) halt.Memory m h g = tt
+
+pub closes_stopped : (m : Machine) (first : Now) (out : Result (Result Value Stop) Halt) (r : Result Now Halt) (e : Halt) (m' : Machine)
+    → IsErrAnd out (λ x. x ≡ e) → handed_on r ≡ Err e → ((last : AfterValue) → Goes last (present last m first) r m') → Closes m first out m'
+closes_stopped m first (Ok end) r e m' i h g = absurd i
+closes_stopped m first (Err x) r e m' i h g =
+    subst (λ y. Closes m first (Err y) m') (sym i) (record { closes = λ last. closed_by last (present last m first) r e m' h (g last) })
+
+-- all but a throw ends the run
+pub kept : (h : Halt) → ((t : Thrown) → h ≡ halt.Throw t → ⊥) → Err h ≡ handed_on (Err h)
+kept (halt.Throw t) n = absurd (n t refl)
+kept (halt.Fault c p) n = refl
+kept (halt.LeftOut name p) n = refl
+kept halt.Memory n = refl
