@@ -1,1 +1,3 @@
-pub mod Bodies
+pub mod Runs
+pub mod Calls
+pub mod Ends

@@ -1,4 +1,3 @@
-pub mod FirstForm
-pub mod FirstPieces
-pub mod FirstViews
-pub mod FirstUnits
+pub mod Endings
+pub mod Runs
+pub mod Answers

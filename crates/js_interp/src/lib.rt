@@ -1,9 +1,17 @@
-//! The script interpreter. Today it runs one form of script, in the module `first`; the interpreter of the whole
-//! language comes in its place.
+//! Runs of scripts.
 //!
-//! It stands on utf16_text, and on step_counter for the count of runs.
+//! `run` runs a script and its function `FindProxyForURL` for one URL, over a host that answers lookups. It comes to
+//! the outcome of one uninterrupted run, or stops at the first name that the host doesn't know: `specs/Answers.antt`
+//! says so by the definition of evaluation (ECMA-262 edition 5.1, cut to this profile). It stands on js_runs, and on
+//! the programs of js_scope.
 #![tactic(auto)]
 
-pub mod first;
-#[cfg(test)]
-mod tests;
+mod endings;
+mod entry;
+mod one_run;
+mod outcome;
+
+pub use entry::Entry;
+pub use js_evaluation::{Fault, FaultCode};
+pub use one_run::{RunAnswer, run};
+pub use outcome::{Ending, Outcome};

@@ -18,14 +18,14 @@ abbrev pub asking_of : Asking → loop.Asking
 asking_of a = record { server = record { address = a.server.address; port = a.server.port }; terms = record { wait = a.wait; tries = a.tries } }
 
 -- one URL; a batch is faulty usage until it is built
-abbrev pub resolve_program : List ℕ → Source → CommandProgram
-resolve_program script (one_url url) = at_once (resolve_plan script url)
-resolve_program script (batch_file file) = at_once (say usage)
+abbrev pub resolve_program : List ℕ → ℕ → Source → CommandProgram
+resolve_program script fuel (one_url url) = at_once (resolve_plan script fuel url)
+resolve_program script fuel (batch_file file) = at_once (say usage)
 
 -- What the words ask for; where they aren't read, the usage. So `map` and `generate` are until they are built.
 abbrev pub program_of : Option Asked → CommandProgram
 program_of None = at_once (say usage)
-program_of (Some (resolving script source how running)) = resolve_program script source
+program_of (Some (resolving script source how running)) = resolve_program script running.fuel source
 program_of (Some (mapping names script source running)) = at_once (say usage)
 program_of (Some (checking script)) = at_once (check_plan script)
 program_of (Some (asking name how)) = at_once (ask_plan (asking_of how) (utf16_units name))

@@ -1,7 +1,6 @@
-// What is said of inputs that are refused, and the report.
+// What is said of inputs that are refused.
 ghost use Rattle.std.specs.Prelude.{◌≡◌};
 ghost use Rattle.pac_plan.specs.Follows.{IsUnlessMemory, Ends};
-ghost use Rattle.pac_command.specs.Resolve.{reported};
 ghost use Rattle.pac_command.specs.Scripts as scripts;
 ghost use Rattle.pac_plan.specs.OutputView.{made};
 
@@ -10,7 +9,7 @@ use js_tree::{Place, ReadKind};
 use pac_plan::{Output, line};
 use pac_ports::FilesAnswer;
 use std::alloc::Global;
-use utf16_text::{Memory, Text};
+use utf16_text::Memory;
 
 /// The output where an input is refused.
 pub(crate) fn refused(alloc: Global, what: &str) -> Result<Output, Memory>
@@ -52,20 +51,4 @@ fn kind_name(kind: ReadKind) -> &'static str
         ReadKind::FractionLiteral => "FractionLiteral",
         ReadKind::Unsupported => "Unsupported",
     }
-}
-
-/// The report of one URL and its result, after one run.
-pub(crate) fn report(alloc: Global, url: &Text, outcome: &Text) -> Result<Output, Memory>
-    ensures { IsUnlessMemory (reported url.now outcome.now) (made result) }
-{
-    let mut text = Vec::new(alloc);
-    text.extend_from_slice("url 1 ".as_bytes())?;
-    url.escape_into(alloc, &mut text, false)?;
-    text.extend_from_slice("\nresult ".as_bytes())?;
-    outcome.escape_into(alloc, &mut text, false)?;
-    text.extend_from_slice("\nruns 1\n".as_bytes())?;
-    Ok(Output {
-        status: Status::Good,
-        text,
-    })
 }

@@ -86,7 +86,12 @@ fn done<F: Files, N: Link, D: Dice, L: Ledger>(
         (record o { files = F.state files.new; link = N.state link.new; dice = D.told dice.new; runs = runs.new }) (made result) }
 {
     match command {
-        Command::Resolve { script, from, .. } => resolve_from(alloc, script, from, files, runs),
+        Command::Resolve {
+            script,
+            from,
+            running,
+            ..
+        } => resolve_from(alloc, script, running.fuel, from, files, runs),
         Command::Check { script } => check(alloc, script, files),
         Command::Ask { name, asking } => ask_by(alloc, name, asking, link, dice, runs),
         Command::Map { .. } => faulty_usage(alloc),
@@ -98,16 +103,17 @@ fn done<F: Files, N: Link, D: Dice, L: Ledger>(
 fn resolve_from<F: Files, L: Ledger>(
     alloc: Global,
     script: &str,
+    fuel: u64,
     from: Source<'_>,
     files: &mut F,
     runs: &mut Steps<L>,
 ) -> Result<Output, Memory>
-    ensures { (o : Outside) → FollowsProgram (resolve_program script.now (source_view from.entry))
+    ensures { (o : Outside) → FollowsProgram (resolve_program script.now fuel (source_view from.entry))
         (record o { files = F.state files.old; runs = runs.old })
         (record o { files = F.state files.new; runs = runs.new }) (made result) }
 {
     match from {
-        Source::Url(url) => resolve(alloc, script, url, files, runs),
+        Source::Url(url) => resolve(alloc, script, fuel, url, files, runs),
         Source::Batch(_) => faulty_usage(alloc),
     }
 }

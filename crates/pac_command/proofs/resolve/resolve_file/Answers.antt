@@ -9,8 +9,5 @@ returns-in_default g c = λ o. gives_up talks _ _
 pub returns-in-Err-Memory : goal.returns-in-Err-Memory
 returns-in-Err-Memory g c = λ o. gives_up talks _ _
 
-pub returns-in-Err-Memory-read : goal.returns-in-Err-Memory-read
-returns-in-Err-Memory-read g c = λ o. gives_up talks _ _
-
-pub returns-in-Err : goal.returns-in-Err
-returns-in-Err g c = λ o. gives_up talks _ _
+pub returns-in-Ok-view : goal.returns-in-Ok-view
+returns-in-Ok-view g c = λ o. rw (← c.in-Ok.ensures.text, c.in-Ok-read_script.ensures, c.in-Ok-view.ensures) (c.resolve_view.ensures o)

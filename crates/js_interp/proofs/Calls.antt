@@ -1,0 +1,73 @@
+-- The call of the script's function.
+use Rattle.std.proofs.Common.{◌≡◌, ℕ, List, [], ◌∷◌, Option, Some, None, Result, Ok, Err, refl, sym, ap, subst, ◌∙◌}
+use Rattle.std.specs.Prelude.{codes}
+use Rattle.std.specs.Result.{IsErrAnd}
+use Rattle.js_tree.specs.Tree.{FunctionTree}
+use Rattle.heap_values.specs.declared.ids.ObjectId.{ObjectId}
+use Rattle.heap_values.specs.declared.built_in.BuiltIn.TheVariants as built_in
+use Rattle.heap_values.specs.declared.value.Value.{Value}
+use Rattle.heap_values.specs.declared.value.Value.TheVariants as value
+use Rattle.object_heap.specs.Fresh.{built_in_number}
+use Rattle.object_heap.specs.Heap.{found_of}
+use Rattle.run_trees.specs.Runs.{◌>>=◌}
+use Rattle.js_evaluation.specs.State.{Stop, Does, test_text, built_in_object, global_object}
+use Rattle.js_evaluation.specs.Objects.{global_id}
+use Rattle.js_evaluation.specs.Evaluation as def
+use Rattle.js_evaluation.specs.Evaluation.{evaluation, most_open, call_part, called_for, entry_of, outside}
+use Rattle.heap_steps.specs.declared.halt.Halt.{Halt}
+use Rattle.heap_steps.specs.Works.{Works}
+use Rattle.heap_steps.proofs.Chains.{chained, stops}
+use Rattle.js_machine.specs.declared.machine.Machine.{Machine}
+use Rattle.js_machine.specs.declared.now.Now.TheVariants as now
+use Rattle.js_machine.specs.declared.now.Part.TheVariants as part
+use Rattle.js_machine.specs.Moves.{functions_of, run_state}
+use Rattle.js_runs.specs.Closes.{Closes}
+use Rattle.js_interp.specs.Runs.{Reaches, RunsBy, called}
+use Rattle.js_interp.proofs.Runs.{loop_runs, heap_then, heap_stops}
+
+module _ (functions : List FunctionTree) (entry : def.Entry) (m : Machine) (r : Result (Result Value Stop) Halt) (m' : Machine) where
+  -- what the name of the script's function stands for is called
+  pub found_runs : (f : Option ObjectId) → f ≡ entry_of m.state.heap (found_of m.state.heap global_id (codes "FindProxyForURL"))
+      → RunsBy (called_for functions entry f) m r m' → RunsBy (called functions entry) m r m'
+  found_runs f is k last =
+      subst (λ (g : Option ObjectId). Reaches last (called_for functions entry g last (run_state m.state)) r m') is (k last)
+
+module _ (functions : List FunctionTree) (entry : def.Entry) (f : ObjectId) (m : Machine) (r : Result (Result Value Stop) Halt) where
+  abbrev of_url : Does (Unit {0})
+  of_url = test_text entry.url outside
+
+  abbrev of_host : Does (Unit {0})
+  of_host = test_text entry.host outside
+
+  abbrev entered : Does Value
+  entered = evaluation functions most_open (call_part f global_object (value.Text entry.url ∷ value.Text entry.host ∷ []) outside)
+
+  -- both texts are short enough
+  pub tested_runs : (m' : Machine) → Works of_url m.state.heap (Ok tt) m.state.heap → Works of_host m.state.heap (Ok tt) m.state.heap
+      → RunsBy entered m r m' → RunsBy (called_for functions entry (Some f)) m r m'
+  tested_runs m' url host k =
+      heap_then (of_url >>= (λ _. of_host)) (λ _. entered) m m.state.heap tt r m'
+      (chained of_url (λ _. of_host) m.state.heap m.state.heap tt (Ok tt) m.state.heap url host) k
+
+  -- one of them isn't
+  pub url_stops : (e : Halt) → IsErrAnd r (λ x. x ≡ e) → Works of_url m.state.heap (Err e) m.state.heap → RunsBy (called_for functions entry (Some f)) m r m
+  url_stops e i url =
+      heap_stops (of_url >>= (λ _. of_host)) (λ _. entered) m m.state.heap r e i
+      (stops of_url (λ _. of_host) m.state.heap m.state.heap (Err e) e refl url)
+
+  pub host_stops : (e : Halt) → IsErrAnd r (λ x. x ≡ e) → Works of_url m.state.heap (Ok tt) m.state.heap → Works of_host m.state.heap (Err e) m.state.heap
+      → RunsBy (called_for functions entry (Some f)) m r m
+  host_stops e i url host =
+      heap_stops (of_url >>= (λ _. of_host)) (λ _. entered) m m.state.heap r e i
+      (chained of_url (λ _. of_host) m.state.heap m.state.heap tt (Err e) m.state.heap url host)
+
+-- the loop does the call
+pub call_runs : (entry : def.Entry) (f global : ObjectId) (arguments : List Value) (m : Machine) (r : Result (Result Value Stop) Halt) (m' : Machine)
+    → m.frames ≡ [] → global.0 ≡ built_in_number built_in.Global → arguments ≡ value.Text entry.url ∷ value.Text entry.host ∷ []
+    → Closes m (now.Begin (part.Call f (value.Object global) arguments outside)) r m'
+    → RunsBy (evaluation (functions_of m) most_open (call_part f global_object (value.Text entry.url ∷ value.Text entry.host ∷ []) outside)) m r m'
+call_runs entry f global arguments m r m' empty is handed k =
+    let same : global ≡ built_in_object built_in.Global = ap (λ (n : ℕ). record { 0 = n }) is in
+    subst (λ (vs : List Value). RunsBy (evaluation (functions_of m) most_open (call_part f global_object vs outside)) m r m') handed
+    (subst (λ (id : ObjectId). RunsBy (evaluation (functions_of m) most_open (call_part f (value.Object id) arguments outside)) m r m') same
+    (loop_runs m (part.Call f (value.Object global) arguments outside) r m' empty k))

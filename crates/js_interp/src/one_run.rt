@@ -1,0 +1,159 @@
+// One run of a script.
+ghost use Rattle.std.specs.Prelude.{◌≡◌, ◌+◌, ◌∷◌, [], IfOk, codes};
+ghost use Rattle.heap_values.specs.declared.value.Value.TheVariants as value;
+ghost use Rattle.object_heap.specs.Heap.{found_of};
+ghost use Rattle.js_tree.specs.Tree.{statements_of};
+ghost use Rattle.js_scope.specs.Functions as scoped;
+ghost use Rattle.js_evaluation.specs.Evaluation as spec;
+ghost use Rattle.js_evaluation.specs.Objects.{global_id};
+ghost use Rattle.js_machine.specs.Moves.{functions_of};
+ghost use Rattle.js_host.specs.Answers.{Knowledge};
+ghost use Rattle.js_host.specs.Seen.{fresh};
+ghost use Rattle.js_interp.specs.Answers.{Answers, entry_of, run_of};
+ghost use Rattle.js_interp.specs.Runs.{Begun, EndsAs, RunsBy, called};
+
+use crate::endings::{OUTSIDE, ending};
+use crate::{Ending, Entry, Outcome};
+use heap_steps::{Halt, callable, test_text};
+use heap_values::{BuiltIn, Found, ObjectId, Value};
+use js_evaluation::FaultCode;
+use js_frames::{Context, Frames};
+use js_host::Host;
+use js_machine::{End, Machine, Part, State};
+use js_runs::run_on;
+use js_scope::Program;
+use js_tree::{Function, Statement};
+use object_heap::Heap;
+use pac_names::LookupName;
+use std::alloc::Global;
+use std::sync::ledger::Ledger;
+use step_counter::Steps;
+use utf16_text::{List, Memory, Text, TextList};
+
+/// What a run answers.
+#[derive(Drop)]
+pub enum RunAnswer {
+    /// The run came to its end.
+    Done(Outcome),
+    /// The host doesn't know this name; it is the first of the run that it doesn't know.
+    Missing(LookupName),
+    /// Memory was refused.
+    Memory,
+}
+
+/// Runs a program for an entry: it is loaded into a fresh heap, and its function `FindProxyForURL` is called with the
+/// URL and the host. It counts as one run. What is said of its answer holds for a host that was asked nothing yet and
+/// kept no alert.
+pub fn run<H: Host, L: Ledger>(
+    alloc: Global,
+    program: &Program,
+    entry: &Entry,
+    host: &mut H,
+    runs: &mut Steps<L>,
+) -> RunAnswer
+    ensures answers { (known : Knowledge) → H.seen host.old ≡ fresh known
+        → Answers (run_of (statements_of program.now.body) (scoped.functions_of program.now.functions) entry.now) known result (H.seen host.new) }
+    ensures known { (H.seen host.new).known ≡ (H.seen host.old).known }
+    ensures counts { runs.new ≡ runs.old + 1 }
+{
+    let _ = host;
+    runs.tick();
+    match run_alone(alloc, program, entry) {
+        Ok(ending) => RunAnswer::Done(Outcome {
+            ending,
+            alerts: TextList::new(alloc),
+        }),
+        Err(Memory) => RunAnswer::Memory,
+    }
+}
+
+/// A run that asks nothing of its host.
+fn run_alone(alloc: Global, program: &Program, entry: &Entry) -> Result<Ending, Memory>
+    ensures { IfOk result (λ ending. EndsAs (statements_of program.now.body) (scoped.functions_of program.now.functions) (entry_of entry.now) ending) }
+{
+    let mut machine = begin(alloc, program.functions.as_slice(), entry.fuel)?;
+    let end = run_whole(&mut machine, program.body.as_slice(), entry);
+    ending(alloc, &machine.state.heap, end)
+}
+
+/// The machine before anything is done.
+fn begin<'p>(alloc: Global, functions: &'p [Function], fuel: u64) -> Result<Machine<'p>, Memory>
+    ensures { IfOk result (λ machine. Begun functions.entry fuel machine) }
+{
+    let heap = Heap::new(alloc)?;
+    let this = Value::Object(heap.built_in(BuiltIn::Global));
+    let scope = heap.outer();
+    Ok(Machine {
+        alloc,
+        functions,
+        context: Context { scope, this },
+        frames: Frames::new(alloc)?,
+        state: State {
+            heap,
+            fuel,
+            base: Value::Undefined,
+        },
+    })
+}
+
+/// Loads the script, and calls its function.
+fn run_whole<'p>(
+    machine: &mut Machine<'p>,
+    body: &'p [Statement],
+    entry: &Entry,
+) -> Result<End, Halt>
+    requires { machine.old.frames ≡ [] }
+    ensures { RunsBy (spec.script_run (statements_of body.entry.now) (functions_of machine.old) (entry_of entry.now)) machine.old result machine.new }
+{
+    let functions = machine.functions;
+    match run_on(machine, Part::Load(body))? {
+        Ok(_) => call_entry(machine, functions, entry),
+        Err(stop) => Ok(Err(stop)),
+    }
+}
+
+/// Calls the function of the script, where there is one and both texts are short enough. functions: those of the script
+/// that is loaded.
+fn call_entry<'p>(
+    machine: &mut Machine<'p>,
+    functions: &'p [Function],
+    entry: &Entry,
+) -> Result<End, Halt>
+    requires { machine.old.frames ≡ [] }
+    ensures { RunsBy (called (scoped.functions_of functions.entry.now) (entry_of entry.now)) machine.old result machine.new }
+{
+    machine.functions = functions;
+    let Some(function) = entry_function(machine.alloc, &machine.state.heap)? else {
+        return Err(Halt::Fault {
+            code: FaultCode::NoEntry,
+            place: OUTSIDE,
+        });
+    };
+    test_text(&entry.url, OUTSIDE)?;
+    test_text(&entry.host, OUTSIDE)?;
+    let this = Value::Object(machine.state.heap.built_in(BuiltIn::Global));
+    let arguments = arguments(machine.alloc, entry)?;
+    run_on(machine, Part::Call(function, this, arguments, OUTSIDE))
+}
+
+/// The function of the script, where its name stands for one.
+fn entry_function(alloc: Global, heap: &Heap) -> Result<Option<ObjectId>, Memory>
+    ensures { IfOk result (λ function. function ≡ spec.entry_of heap.now (found_of heap.now global_id (codes "FindProxyForURL"))) }
+{
+    let name = Text::from_latin_1(alloc, b"FindProxyForURL")?;
+    match heap.get(alloc, heap.built_in(BuiltIn::Global), &name)? {
+        Found::Value(value) => Ok(callable(heap, &value)),
+        Found::Absent => Ok(None),
+        Found::LeftOut(_) => Ok(None),
+    }
+}
+
+/// The arguments that the function is called with.
+fn arguments(alloc: Global, entry: &Entry) -> Result<List<Value>, Memory>
+    ensures { IfOk result (λ vs. vs ≡ value.Text entry.now.url ∷ value.Text entry.now.host ∷ []) }
+{
+    let mut arguments = List::new(alloc);
+    arguments.push(alloc, Value::Text(entry.url.copy(alloc)?))?;
+    arguments.push(alloc, Value::Text(entry.host.copy(alloc)?))?;
+    Ok(arguments)
+}

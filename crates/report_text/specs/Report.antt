@@ -1,0 +1,101 @@
+-- The report: the lines that are written of each URL, in the order of the URLs. Each line ends with a line feed.
+use Rattle.std.specs.Prelude.{ℕ, ◌+◌, List, [], ◌∷◌, ◌++◌, Bool, true, false, if◌then◌else◌, flat_map, codes}
+use Rattle.std.specs.Fmt.{decimal}
+use Rattle.utf16_text.specs.Escape.{escaped}
+use Rattle.js_tree.specs.declared.place.Place.{Place}
+use Rattle.js_host.specs.Answers.{Name}
+use Rattle.js_evaluation.specs.declared.fault.Fault.{Fault}
+use Rattle.js_evaluation.specs.declared.fault.FaultCode.{FaultCode}
+use Rattle.js_evaluation.specs.declared.fault.FaultCode.TheVariants as code
+use Rattle.js_evaluation.specs.Evaluation.{Ending, Gives, Fails, Outcome}
+use Rattle.js_interp.specs.Answers.{seen_outcome}
+use Rattle.report_text.specs.declared.blocks.End as declared
+use Rattle.report_text.specs.declared.blocks.End.TheVariants as of_code
+use Rattle.report_text.specs.declared.blocks.UrlEnd as of_url
+
+-- how it ended with a URL: its run came to this outcome, or this name stayed unanswered
+pub data End : Type 0 where
+  done : Outcome → End
+  unanswered : Name → End
+
+pub record UrlEnd : Type 0 where
+  pub end : End
+  pub runs : ℕ
+
+abbrev pub line : List ℕ → List ℕ
+line text = text ++ 10 ∷ []
+
+-- ---- faults
+
+abbrev pub fault_name : FaultCode → List ℕ
+fault_name code.FuelSpent = codes "F1 FuelSpent"
+fault_name code.TooDeep = codes "F2 TooDeep"
+fault_name code.TooManyNames = codes "F3 TooManyNames"
+fault_name code.StringTooLong = codes "F4 StringTooLong"
+fault_name code.TextSpent = codes "F5 TextSpent"
+fault_name code.ArrayTooLong = codes "F6 ArrayTooLong"
+fault_name code.HeapFull = codes "F7 HeapFull"
+fault_name code.NumberRange = codes "F8 NumberRange"
+fault_name code.Fraction = codes "F9 Fraction"
+fault_name code.NotANumber = codes "F10 NotANumber"
+fault_name code.DivisionByZero = codes "F11 DivisionByZero"
+fault_name code.Unsupported = codes "F12 Unsupported"
+fault_name code.Uncaught = codes "F13 Uncaught"
+fault_name code.NoEntry = codes "F14 NoEntry"
+fault_name code.NotAString = codes "F15 NotAString"
+
+-- two kinds of fault say more: the name that is left out, and the text of what was thrown
+abbrev pub has_detail : FaultCode → Bool
+has_detail code.Unsupported = true
+has_detail code.Uncaught = true
+has_detail c = false
+
+-- line and column, parted by a colon (58)
+abbrev pub place_text : Place → List ℕ
+place_text place = decimal place.line ++ 58 ∷ decimal place.column
+
+abbrev pub detail_text : Fault → List ℕ
+detail_text fault = if has_detail fault.code then 32 ∷ escaped false fault.detail else []
+
+abbrev pub fault_text : Fault → List ℕ
+fault_text fault = fault_name fault.code ++ codes " at " ++ place_text fault.place ++ detail_text fault
+
+-- ---- one URL
+
+abbrev pub ending_line : Ending → List ℕ
+ending_line (Gives text) = line (codes "result " ++ escaped false text)
+ending_line (Fails fault) = line (codes "fault " ++ fault_text fault)
+
+abbrev pub alert_line : List ℕ → List ℕ
+alert_line text = line (codes "alert " ++ escaped false text)
+
+-- the alerts that are kept, and how the run ended; of a name that stayed unanswered, no alert
+abbrev pub end_lines : End → List ℕ
+end_lines (done outcome) = flat_map alert_line outcome.alerts ++ ending_line outcome.ending
+end_lines (unanswered name) = line (codes "unanswered " ++ name)
+
+abbrev pub url_line : ℕ → List ℕ → List ℕ
+url_line number url = line (codes "url " ++ decimal number ++ 32 ∷ escaped false url)
+
+abbrev pub runs_line : ℕ → List ℕ
+runs_line runs = line (codes "runs " ++ decimal runs)
+
+abbrev pub block : ℕ → List ℕ → UrlEnd → List ℕ
+block number url end = url_line number url ++ end_lines end.end ++ runs_line end.runs
+
+-- ---- all of them
+
+-- the blocks of URLs from this number on
+abbrev pub report_from : ℕ → List (List ℕ) → List UrlEnd → List ℕ
+report_from number [] ends = []
+report_from number (url ∷ urls) [] = []
+report_from number (url ∷ urls) (end ∷ ends) = block number url end ++ report_from (number + 1) urls ends
+
+-- ---- what code has
+
+abbrev pub seen : declared.End → End
+seen (of_code.Done outcome) = done (seen_outcome outcome)
+seen (of_code.Unanswered name) = unanswered name
+
+abbrev pub seen_end : of_url.UrlEnd → UrlEnd
+seen_end end = record { end = seen end.end; runs = end.runs }
