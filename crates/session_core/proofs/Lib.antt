@@ -1,0 +1,12 @@
+pub mod Burying
+pub mod Drawing
+pub mod Knowing
+pub mod OneRun
+pub mod Cascades
+pub mod Telling
+pub mod Tells
+pub mod Found
+pub mod Turning
+pub mod Begins
+pub mod Start
+pub mod Walks

@@ -1,0 +1,33 @@
+-- What running all sessions over a link comes to.
+use Rattle.std.specs.Prelude.{◌≡◌, ℕ, List}
+use Rattle.std.specs.List.{All}
+use Rattle.run_trees.specs.RunTree.{RunTree}
+use Rattle.poll_log.specs.declared.terms.Terms.{Terms}
+use Rattle.poll_log.specs.Turns.{Turns}
+use Rattle.poll_log.specs.Told.{told}
+use Rattle.poll_log.specs.Jobs.{IsFinished, IsUnanswered, Job, runs_of}
+use Rattle.poll_loop.specs.Task.{Talk}
+use Rattle.poll_loop.specs.declared.looping.Asking.{Asking}
+use Rattle.session_log.specs.Asked.{job_of}
+use Rattle.session_core.specs.declared.session.State.{State}
+use Rattle.session_core.specs.declared.session.State.TheVariants.{Waiting, Finished, Unanswered}
+use Rattle.session_core.specs.declared.session.Session.{Session}
+use Rattle.session_core.specs.Sessions.{IsOutcome}
+use Rattle.session_core.specs.Stands.{jobs_of, task_of}
+
+-- These jobs, and the server that is asked.
+abbrev pub talk_of : Asking → List Job → Talk
+talk_of asking jobs = record { server = asking.server; task = task_of asking.terms jobs }
+
+-- The outcome of the uninterrupted run against every map that holds what is told; or the first untold name, which is dead.
+abbrev pub HasEnded : {Out End : Type 0} → (Out → End → List (List ℕ) → Type 0) → RunTree End → Terms → Turns → State Out → Type 0
+HasEnded gives run terms turns (Waiting name) = ⊥
+HasEnded gives run terms turns (Finished out) =
+    IsFinished terms turns (job_of run) × IsOutcome gives run (told terms turns) out
+HasEnded gives run terms turns (Unanswered name) = IsUnanswered terms turns (job_of run) name
+
+-- The sessions are those of the jobs, each has ended, and was run as often as its waits were told, and once more.
+pub record AllEnded {R Out End : Type 0} (gives : Out → End → List (List ℕ) → Type 0) (tree : R → RunTree End) (jobs : List Job) (terms : Terms) (turns : Turns) (sessions : List (Session R Out)) : Type 0 where
+  pub jobs_are : jobs_of tree sessions ≡ jobs
+  pub ended : All (λ s. HasEnded gives (tree s.run) terms turns s.state) sessions
+  pub counted : All (λ s. s.runs ≡ runs_of terms turns (job_of (tree s.run))) sessions

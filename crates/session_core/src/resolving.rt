@@ -1,0 +1,50 @@
+// All sessions, over a link.
+ghost use Rattle.std.specs.Prelude.{◌≡◌, Err, IfOk, List};
+ghost use Rattle.pac_plan.specs.Plan.{Outside, whole, faulted, unfinished};
+ghost use Rattle.pac_ports.specs.declared.link.Move.{Move};
+ghost use Rattle.poll_log.specs.Turns.{turns_of};
+ghost use Rattle.poll_loop.specs.Talks.{Talked};
+ghost use Rattle.stub_poller.specs.Ready.{AreTerms};
+ghost use Rattle.session_core.specs.Beginning.{run_jobs};
+ghost use Rattle.session_core.specs.Resolved.{AllEnded, talk_of};
+
+use crate::{Core, Run};
+use pac_ports::{Dice, Link};
+use poll_loop::{Asking, Stop, poll};
+use std::alloc::Global;
+use std::sync::ledger::Ledger;
+use step_counter::Steps;
+
+/// Runs all, asks for the names that they miss, and runs again what waited for an answer, until no session waits.
+pub fn run_all<R: Run, N: Link, D: Dice, L: Ledger>(
+    alloc: Global,
+    all: Vec<R>,
+    asking: Asking,
+    link: &mut N,
+    dice: &mut D,
+    runs: &mut Steps<L>,
+) -> Result<Core<R>, Stop>
+    requires { AreTerms asking.terms }
+    // The log is polled, and each session has ended by it.
+    ensures ok { IfOk result (λ core. (old : Outside) → old.link ≡ N.state link.old → old.dice ≡ D.told dice.old → old.runs ≡ runs.old →
+        (log : List Move) × Talked (talk_of asking (run_jobs R.tree all.items)) old whole log
+        (record old { link = N.state link.new; dice = D.told dice.new; runs = runs.new })
+        × AllEnded R.gives R.tree (run_jobs R.tree all.items) asking.terms (turns_of log) core.sessions.items) }
+    // The link failed, and the log is cut short.
+    ensures fault { result ≡ Err Stop.Link → (old : Outside) → old.link ≡ N.state link.old → old.dice ≡ D.told dice.old → old.runs ≡ runs.old →
+        (log : List Move) × Talked (talk_of asking (run_jobs R.tree all.items)) old faulted log
+        (record old { link = N.state link.new; dice = D.told dice.new; runs = runs.new }) }
+    ensures memory { result ≡ Err Stop.Memory → (old : Outside) → old.link ≡ N.state link.old → old.dice ≡ D.told dice.old → old.runs ≡ runs.old →
+        (log : List Move) × Talked (talk_of asking (run_jobs R.tree all.items)) old unfinished log
+        (record old { link = N.state link.new; dice = D.told dice.new; runs = runs.new }) }
+{
+    let Ok(begun) = Core::start(alloc, all, asking.terms, dice, runs) else {
+        return Err(Stop::Memory);
+    };
+    let (mut core, first) = begun;
+    match poll(alloc, &mut core, &first, asking, link, dice, runs) {
+        Ok(()) => Ok(core),
+        Err(Stop::Link) => Err(Stop::Link),
+        Err(Stop::Memory) => Err(Stop::Memory),
+    }
+}

@@ -1,0 +1,4 @@
+pub mod Asking
+pub mod Orders
+pub mod Ends
+pub mod Totals

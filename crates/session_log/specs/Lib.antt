@@ -1,0 +1,4 @@
+pub mod Asked
+pub mod Sessions
+pub mod Laws
+pub mod Examples
