@@ -59,16 +59,23 @@ def examples(ending):
     return sorted(name.removesuffix(ending) for name in os.listdir("examples") if name.endswith(ending))
 
 
+def example_words(name):
+    """The words of an example: `map` where it has a file of names, else `resolve`; and those of its file of words."""
+    names, more = f"examples/{name}.names", f"examples/{name}.words"
+    words = ["map", "--names", names] if os.path.exists(names) else ["resolve"]
+    words += [f"examples/{name}.pac", contents(f"examples/{name}.url").strip()]
+    return words + (contents(more).split() if os.path.exists(more) else [])
+
+
 def check_examples(failures):
-    printed, resolved = examples(".printed"), examples(".url")
+    printed, run = examples(".printed"), examples(".url")
     for name in printed:
         text = contents(f"examples/{name}.printed")
         check(failures, f"check {name}", ["./pac", "check", f"examples/{name}.pac"], (text, 0))
-    for name in resolved:
-        url = contents(f"examples/{name}.url").strip()
+    for name in run:
         report = contents(f"examples/{name}.report")
-        check(failures, f"resolve {name}", ["./pac", "resolve", f"examples/{name}.pac", url], (report, 0))
-    return len(printed) + len(resolved)
+        check(failures, f"run {name}", ["./pac", *example_words(name)], (report, 0))
+    return len(printed) + len(run)
 
 
 def check_bad_input(failures):
@@ -89,6 +96,9 @@ def check_bad_input(failures):
             (["resolve", absent, url], b"fault read script\n", 3),
             (["resolve", folder, url], b"fault read script\n", 3),
             (["resolve", long, url], b"refused script TooLong\n", 4),
+            (["map", "examples/direct.pac", url, "--names", absent], b"fault read names\n", 3),
+            (["map", "examples/direct.pac", url, "--names", long], b"refused names TooLong\n", 4),
+            (["map", "examples/direct.pac", url, "--names", empty], contents("examples/direct.report"), 0),
             (["check", empty], b"", 0),
         ]
         for words, text, status in cases:

@@ -10,10 +10,11 @@ use std::marker::Brand;
 use std::sync::ledger::{Blank, Ledger};
 use step_counter::Steps;
 
-/// Files in which a script is `s.pac`.
-pub(crate) fn files_of(alloc: Global, script: &[u8]) -> Result<MemoryFiles> {
+/// Files in which a script is `s.pac`, and a names file `n`.
+pub(crate) fn files_of(alloc: Global, script: &[u8], names: &[u8]) -> Result<MemoryFiles> {
     let mut files = MemoryFiles::new(alloc);
     files.add(alloc, "s.pac", script)?;
+    files.add(alloc, "n", names)?;
     Ok(files)
 }
 

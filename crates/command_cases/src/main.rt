@@ -1,4 +1,4 @@
-//! What `pac` answers and writes over files and sinks in memory: a table of scripts and words.
+//! What `pac` answers and writes over files and sinks in memory: a table of scripts, names files and words.
 //!
 //! It reads the rows from its input, and stands on pac_command and pac_ports.
 #![tactic(auto)]
@@ -20,8 +20,10 @@ fn main(rt: HostRuntime) -> Result<()> {
 fn answer(alloc: Global, part: &str, fields: &[&str]) -> Result<String> {
     match part {
         "answers" => plain(alloc, fields),
+        "names files" => mapped(alloc, fields),
         "nested brackets" => nested(alloc, fields),
         "long scripts" => long(alloc, fields),
+        "long names files" => long_names(alloc, fields),
         "failing ports" => failing(alloc, fields),
         "narrow sink" => narrow(alloc, fields),
         _ => bail!("no part {part}"),
@@ -32,7 +34,19 @@ fn plain(alloc: Global, fields: &[&str]) -> Result<String> {
     let [script, words] = fields else {
         bail!("a script and words");
     };
-    over(alloc, &octets(alloc, script)?, words)
+    over(alloc, &octets(alloc, script)?, b"", words)
+}
+
+fn mapped(alloc: Global, fields: &[&str]) -> Result<String> {
+    let [names, script, words] = fields else {
+        bail!("a names file, a script and words");
+    };
+    over(
+        alloc,
+        &octets(alloc, script)?,
+        &octets(alloc, names)?,
+        words,
+    )
 }
 
 fn nested(alloc: Global, fields: &[&str]) -> Result<String> {
@@ -43,20 +57,34 @@ fn nested(alloc: Global, fields: &[&str]) -> Result<String> {
     let mut script = vec![in alloc; b'('; count]?;
     script.push(b'1')?;
     script.extend_from_slice(&vec![in alloc; b')'; count]?)?;
-    over(alloc, &script, "check s.pac")
+    over(alloc, &script, b"", "check s.pac")
 }
 
 fn long(alloc: Global, fields: &[&str]) -> Result<String> {
+    let blanks = blanks_of(alloc, fields)?;
+    over(alloc, &blanks, b"", "resolve s.pac http://example.com/a")
+}
+
+fn long_names(alloc: Global, fields: &[&str]) -> Result<String> {
+    let blanks = blanks_of(alloc, fields)?;
+    over(
+        alloc,
+        b"",
+        &blanks,
+        "map --names n s.pac http://example.com/a",
+    )
+}
+
+fn blanks_of(alloc: Global, fields: &[&str]) -> Result<Vec<u8>> {
     let [length] = fields else {
         bail!("a length");
     };
-    let blanks = vec![in alloc; b' '; length.parse::<usize>()?]?;
-    over(alloc, &blanks, "resolve s.pac http://example.com/a")
+    Ok(vec![in alloc; b' '; length.parse::<usize>()?]?)
 }
 
-/// The answer to words over a script.
-fn over(alloc: Global, script: &[u8], words: &str) -> Result<String> {
-    let mut files = files_of(alloc, script)?;
+/// The answer to words over a script and a names file.
+fn over(alloc: Global, script: &[u8], names: &[u8], words: &str) -> Result<String> {
+    let mut files = files_of(alloc, script, names)?;
     let mut out = MemorySink::new(alloc, 1000)?;
     let status = status_of(alloc, words, &mut files, &mut out)?;
     written(alloc, status, out.bytes())
@@ -67,7 +95,7 @@ fn failing(alloc: Global, fields: &[&str]) -> Result<String> {
     let [script, words, reading, writing, runs] = fields else {
         bail!("a script, words, the calls that fail, and a count of runs");
     };
-    let mut files = files_of(alloc, &octets(alloc, script)?)?;
+    let mut files = files_of(alloc, &octets(alloc, script)?, b"")?;
     files.fail_at(alloc, reading.parse::<u64>()?)?;
     let mut out = MemorySink::new(alloc, 1000)?;
     out.fail_at(alloc, writing.parse::<u64>()?)?;
@@ -82,7 +110,7 @@ fn narrow(alloc: Global, fields: &[&str]) -> Result<String> {
     let [script, words, writing] = fields else {
         bail!("a script, words, and the call of the sink that fails");
     };
-    let mut files = files_of(alloc, &octets(alloc, script)?)?;
+    let mut files = files_of(alloc, &octets(alloc, script)?, b"")?;
     let mut out = NarrowSink::new(alloc, writing.parse::<u64>()?);
     let status = status_of(alloc, words, &mut files, &mut out)?;
     written(alloc, status, out.bytes())

@@ -11,6 +11,8 @@ use Rattle.heap_values.specs.Views.{HeapView}
 use Rattle.run_trees.specs.declared.abrupt.Abrupt.TheVariants as ending
 use Rattle.run_trees.specs.RunTree.{Done}
 use Rattle.run_trees.specs.Runs.{After, reading}
+use Rattle.pac_calendar.specs.declared.moment.Moments.{Moments}
+use Rattle.pac_functions.specs.declared.call.PacSettings.{PacSettings}
 use Rattle.js_evaluation.specs.declared.fault.FaultCode.{FaultCode}
 use Rattle.js_evaluation.specs.declared.fault.FaultCode.TheVariants as code
 use Rattle.js_evaluation.specs.declared.fault.Fault.{Fault}
@@ -23,8 +25,15 @@ use Rattle.object_heap.specs.Heap.{found_of, object_at, own_found_in}
 use Rattle.heap_steps.specs.declared.halt.Halt.{Halt}
 use Rattle.heap_steps.specs.declared.halt.Halt.TheVariants as halt
 
-abbrev pub state_with : HeapView → ℕ → Value → RunState
-state_with heap fuel base = record { heap = heap; fuel = fuel; base = base }
+-- what a state has beside its heap and its fuel
+pub record Beside : Type 0 where
+  pub base : Value
+  pub now : Moments
+  pub settings : PacSettings
+
+abbrev pub state_with : HeapView → ℕ → Beside → RunState
+state_with heap fuel beside =
+    record { heap = heap; fuel = fuel; base = beside.base; now = beside.now; settings = beside.settings }
 
 abbrev pub plain_fault : FaultCode → Place → Fault
 plain_fault code place = record { code = code; place = place; detail = [] }
@@ -34,14 +43,14 @@ left_out name place = record { code = code.Unsupported; place = place; detail = 
 
 -- The part does this to the heap, whatever comes after it: it gives a value, throws or ends the run.
 abbrev pub Worked : {A : Type 0} → Does A → HeapView → Result A Halt → HeapView → Type 0
-Worked {A} part h (Ok v) h' = (after : After RunState Stop RunEnd A) (fuel : ℕ) (base : Value)
-    → part after (state_with h fuel base) ≡ after (Ok v) (state_with h' fuel base)
-Worked {A} part h (Err (halt.Throw thrown)) h' = (after : After RunState Stop RunEnd A) (fuel : ℕ) (base : Value)
-    → part after (state_with h fuel base) ≡ after (Err (ending.Thrown thrown)) (state_with h' fuel base)
-Worked {A} part h (Err (halt.Fault c place)) h' = (after : After RunState Stop RunEnd A) (fuel : ℕ) (base : Value)
-    → part after (state_with h fuel base) ≡ Done (Faults (plain_fault c place))
-Worked {A} part h (Err (halt.LeftOut name place)) h' = (after : After RunState Stop RunEnd A) (fuel : ℕ) (base : Value)
-    → part after (state_with h fuel base) ≡ Done (Faults (left_out name place))
+Worked {A} part h (Ok v) h' = (after : After RunState Stop RunEnd A) (fuel : ℕ) (beside : Beside)
+    → part after (state_with h fuel beside) ≡ after (Ok v) (state_with h' fuel beside)
+Worked {A} part h (Err (halt.Throw thrown)) h' = (after : After RunState Stop RunEnd A) (fuel : ℕ) (beside : Beside)
+    → part after (state_with h fuel beside) ≡ after (Err (ending.Thrown thrown)) (state_with h' fuel beside)
+Worked {A} part h (Err (halt.Fault c place)) h' = (after : After RunState Stop RunEnd A) (fuel : ℕ) (beside : Beside)
+    → part after (state_with h fuel beside) ≡ Done (Faults (plain_fault c place))
+Worked {A} part h (Err (halt.LeftOut name place)) h' = (after : After RunState Stop RunEnd A) (fuel : ℕ) (beside : Beside)
+    → part after (state_with h fuel beside) ≡ Done (Faults (left_out name place))
 Worked part h (Err halt.Memory) h' = Unit {0}
 
 pub record Works {A : Type 0} (part : Does A) (h : HeapView) (r : Result A Halt) (h' : HeapView) : Type 0 where

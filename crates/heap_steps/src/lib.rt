@@ -19,6 +19,6 @@ pub use functions::{callable, closure};
 pub use halt::{Halt, refused};
 pub use making::{define, define_as, make, make_by, make_scope, spend, test_text};
 pub use names::{delete_name, read_name, read_or_undefined, write_name};
-pub use primitives::{bits_or_fault, number_or_fault, operate, stepped};
+pub use primitives::{bits_or_fault, counted, number_or_fault, operate, stepped};
 pub use properties::{count_of, found_value, get, has_property, own_of, stands_among, test_base};
 pub use writing::{delete_property, put, put_on};

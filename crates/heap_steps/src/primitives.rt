@@ -3,7 +3,7 @@ ghost use Rattle.std.specs.Prelude.{◌≡◌};
 ghost use Rattle.js_convert.specs.Operators.{operator_value};
 ghost use Rattle.js_evaluation.specs.Conversions as spec;
 ghost use Rattle.js_evaluation.specs.Conversions.{Call};
-ghost use Rattle.js_evaluation.specs.Natives.{gives_text};
+ghost use Rattle.js_evaluation.specs.Handed.{gives, gives_text};
 ghost use Rattle.heap_steps.specs.Works.{Tests, Works, operator_refusal};
 
 use crate::Halt;
@@ -83,9 +83,9 @@ pub fn operate(
     }
 }
 
-/// A text that `+` makes is counted.
-fn counted(heap: &mut Heap, value: Value, place: Place) -> Result<Value, Halt>
-    ensures { (call : Call) → Works (spec.counted call value place) heap.old result heap.new }
+/// A value that an operator or a native gives: a text is counted.
+pub fn counted(heap: &mut Heap, value: Value, place: Place) -> Result<Value, Halt>
+    ensures { Works (gives value place) heap.old result heap.new }
 {
     match value {
         Value::Text(text) => counted_text(heap, text, place),

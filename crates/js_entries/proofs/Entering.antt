@@ -24,10 +24,11 @@ use Rattle.heap_steps.specs.Works.{Works, state_with}
 use Rattle.js_machine.specs.declared.machine.Machine.{Machine}
 use Rattle.js_machine.specs.declared.now.Now.{Now}
 use Rattle.js_machine.specs.declared.now.Now.TheVariants as now
-use Rattle.js_machine.specs.Moves.{Moves, at, functions_of, inner, left, run_state, weight}
+use Rattle.js_machine.specs.Moves.{Moves, at, functions_of, inner, left, run_state, weight, beside_of}
 use Rattle.js_evaluation.specs.Objects.{Context, get}
 use Rattle.js_evaluation.specs.Conversions.{text_methods}
-use Rattle.js_evaluation.specs.Natives.{argument, gives_text, joined, make_error, optional_text, text_or}
+use Rattle.js_evaluation.specs.Handed.{argument, gives_text}
+use Rattle.js_evaluation.specs.Natives.{joined, make_error, optional_text, text_or}
 use Rattle.js_frames.specs.Parts.{context_of}
 use Rattle.js_frames.specs.RestOf.{rest_of}
 use Rattle.js_evaluation.specs.Evaluation as evaluation
@@ -200,7 +201,7 @@ module _ (m : Machine) (place : Place) (r : Result Now Halt) (m' : Machine) wher
       (λ last. w.is _ _ _ ∙ name_then (rule.call (functions_of m) (inner m) (context_of m.context)) place
       (λ name. get (value.Object error) (codes "message") place >>= (λ message. text_or (rule.call (functions_of m) (inner m) (context_of m.context)) [] message place
       >>= (λ text. gives_text (joined name text) place)))
-      (rest_of (functions_of m) last m.frames) v (state_with h m.state.fuel m.state.base)) refl k
+      (rest_of (functions_of m) last m.frames) v (state_with h m.state.fuel (beside_of m.state))) refl k
 
   pub message_moves : (prototype : BuiltIn) (vs : List Value) → (argument 0 vs ≡ value.Undefined → ⊥)
       → Moves (at m primitive text_methods (argument 0 vs) place (wanted.Message prototype place)) m r m' → Moves (at m error_value prototype vs place) m r m'
@@ -216,5 +217,5 @@ module _ (m : Machine) (place : Place) (r : Result Now Halt) (m' : Machine) wher
 
   pub class_moves : (v : Value) → Moves (gives_text (class_in m.state.heap v) place) m r m' → Moves (at m object_text v place) m r m'
   class_moves v k = moves_from r
-      (λ last. class_then (rule.call (functions_of m) (inner m) (context_of m.context)) m.state.heap m.state.fuel m.state.base v place
+      (λ last. class_then (rule.call (functions_of m) (inner m) (context_of m.context)) m.state.heap m.state.fuel (beside_of m.state) v place
       (rest_of (functions_of m) last m.frames)) refl k

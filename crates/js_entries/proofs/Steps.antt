@@ -28,7 +28,7 @@ use Rattle.js_evaluation.specs.Objects.{Context, write_name}
 use Rattle.js_binding.specs.Names.{arguments_name}
 use Rattle.js_binding.specs.Scopes.{place_of}
 use Rattle.js_evaluation.specs.Entries.{arguments_at, arguments_if, arguments_object, elements_from, has_own_arguments, parameters_from, functions_from}
-use Rattle.js_evaluation.specs.Natives.{argument}
+use Rattle.js_evaluation.specs.Handed.{argument}
 use Rattle.js_entries.specs.Names.{arguments_in, bound, declared_in, function_bound, function_in, place_from}
 use Rattle.js_entries.specs.Globals.{Body, declare_variable, function_declared, functions_declared, variables_declared}
 
@@ -195,7 +195,7 @@ module _ (p : Place) (vs : List Value) (h h' : HeapView) (object : ObjectId)
     object_made k one =
         chained _ (λ o. define o (codes "length") (value.Number (pos (length vs))) false true p >> (elements_from p o 0 vs >> pure (value.Object o))) h h' object (Ok (value.Object object)) k made
         (chained _ (λ _. elements_from p object 0 vs >> pure (value.Object object)) h' h'' tt (Ok (value.Object object)) k sized
-        (chained _ (λ _. pure (value.Object object)) h'' k tt (Ok (value.Object object)) k one (record { is = λ after fuel base. refl })))
+        (chained _ (λ _. pure (value.Object object)) h'' k tt (Ok (value.Object object)) k one (record { is = λ after fuel beside. refl })))
 
 arguments_none : (own : Bool) (scope : ScopeId) (p : Place) (names : List (List ℕ)) (vs : List Value) → None ≡ place_of arguments_name names
     → arguments_if own scope p names vs ≡ pure tt
@@ -213,10 +213,10 @@ arguments_some own scope p names vs slot e here =
 
 module _ (own : Bool) (scope : ScopeId) (p : Place) (names : List (List ℕ)) (vs : List Value) (h : HeapView) where
   pub none_bound : None ≡ place_of arguments_name names → Works (arguments_if own scope p names vs) h (Ok tt) h
-  none_bound e = subst (λ (q : Does (Unit {0})). Works q h (Ok tt) h) (sym (arguments_none own scope p names vs e)) (record { is = λ after fuel base. refl })
+  none_bound e = subst (λ (q : Does (Unit {0})). Works q h (Ok tt) h) (sym (arguments_none own scope p names vs e)) (record { is = λ after fuel beside. refl })
 
   pub own_bound : own ≡ true → Works (arguments_if own scope p names vs) h (Ok tt) h
-  own_bound e = subst (λ (q : Does (Unit {0})). Works q h (Ok tt) h) (sym (arguments_own own scope p names vs e)) (record { is = λ after fuel base. refl })
+  own_bound e = subst (λ (q : Does (Unit {0})). Works q h (Ok tt) h) (sym (arguments_own own scope p names vs e)) (record { is = λ after fuel beside. refl })
 
   pub some_bound : (slot : ℕ) (r : Result (Unit {0}) Halt) (h' : HeapView) → own ≡ false → Some slot ≡ place_of arguments_name names
       → Works (arguments_in scope slot vs p) h r h' → Works (arguments_if own scope p names vs) h r h'

@@ -8,10 +8,11 @@ use Rattle.js_convert.specs.Texts.{text_of}
 use Rattle.run_trees.specs.Runs.{onward, pure, ◌>>=◌}
 use Rattle.js_evaluation.specs.State.{RunState, Stop, Does}
 use Rattle.js_evaluation.specs.Conversions.{Call, text_methods, to_primitive, to_text}
-use Rattle.js_evaluation.specs.Natives.{gives, gives_text, object_text, optional_text, text_or}
+use Rattle.js_evaluation.specs.Handed.{gives, gives_text}
+use Rattle.js_evaluation.specs.Natives.{object_text, optional_text, text_or}
 use Rattle.js_frames.specs.Rules.{AfterValue}
 use Rattle.heap_values.specs.Views.{HeapView}
-use Rattle.heap_steps.specs.Works.{state_with}
+use Rattle.heap_steps.specs.Works.{state_with, Beside}
 use Rattle.js_entries.specs.Natives.{class_in, name_or_error}
 
 module _ (call : Call) (place : Place) (next : List ℕ → Does Value) (after : AfterValue) where
@@ -54,14 +55,14 @@ module _ (call : Call) (place : Place) (next : Option (List ℕ) → Does Value)
       ∙ text_then call place (λ t. next (Some t)) after (value.Object id) s
 
 -- the class of a value is read in the heap as it is
-pub class_then : (call : Call) (h : HeapView) (fuel : ℕ) (base v : Value) (place : Place) (after : AfterValue)
-    → object_text call v place after (state_with h fuel base) ≡ gives_text (class_in h v) place after (state_with h fuel base)
-class_then call h fuel base value.Undefined place after = refl
-class_then call h fuel base value.Null place after = refl
-class_then call h fuel base (value.Bool b) place after = refl
-class_then call h fuel base (value.Number n) place after = refl
-class_then call h fuel base (value.Text t) place after = refl
-class_then call h fuel base (value.Object id) place after = refl
+pub class_then : (call : Call) (h : HeapView) (fuel : ℕ) (beside : Beside) (v : Value) (place : Place) (after : AfterValue)
+    → object_text call v place after (state_with h fuel beside) ≡ gives_text (class_in h v) place after (state_with h fuel beside)
+class_then call h fuel beside value.Undefined place after = refl
+class_then call h fuel beside value.Null place after = refl
+class_then call h fuel beside (value.Bool b) place after = refl
+class_then call h fuel beside (value.Number n) place after = refl
+class_then call h fuel beside (value.Text t) place after = refl
+class_then call h fuel beside (value.Object id) place after = refl
 
 -- a value that is no text is given as it is
 pub given : (v : Value) (place : Place) → ((t : List ℕ) → v ≡ value.Text t → ⊥) → gives v place ≡ pure v

@@ -8,10 +8,12 @@ use Rattle.heap_values.specs.declared.value.Value.{Value}
 use Rattle.heap_values.specs.declared.value.Value.TheVariants as value
 use Rattle.heap_values.specs.Views.{HeapView}
 use Rattle.object_heap.specs.Heap.{object_at, kind_in}
+use Rattle.pac_functions.specs.declared.call.PacFunction.{PacFunction}
 use Rattle.js_evaluation.specs.declared.native.Native.{Native}
 use Rattle.js_evaluation.specs.State.{Does, throw_type_error, unsupported}
 use Rattle.js_evaluation.specs.Objects.{Context}
 use Rattle.js_evaluation.specs.Natives as native
+use Rattle.js_evaluation.specs.PacNatives as pac
 use Rattle.js_frames.specs.Rules as rule
 use Rattle.js_frames.specs.Rules.{Within}
 
@@ -55,3 +57,6 @@ module _ (functions : List FunctionTree) (go : Within) (cx : Context) where
 
   abbrev pub object_text : Value → Place → Does Value
   object_text = native.object_text (rule.call functions go cx)
+
+  abbrev pub pac_value : PacFunction → List Value → Place → Does Value
+  pac_value = pac.pac_value (rule.call functions go cx)

@@ -13,14 +13,14 @@ ghost use Rattle.js_entries.specs.Globals.{Body};
 ghost use Rattle.js_entries.specs.Names.{declared_in};
 
 use crate::names::{declared, function_object};
-use crate::variables::variables_of;
 use heap_steps::{Halt, define, throw_type_error};
 use heap_values::{BuiltIn, Found, Kind, ObjectId, Value};
 use js_frames::Context;
 use js_machine::{Machine, Step};
 use js_statements::statements_from;
-use js_tree::{Function, Place, Statement};
+use js_tree::{Function, NameList, Place, Statement};
 use object_heap::{Heap, Marks};
+use scope_names::add_variables;
 use std::alloc::Global;
 use utf16_text::{Memory, Text};
 
@@ -139,7 +139,8 @@ fn is_left_out(alloc: Global, heap: &Heap, object: ObjectId, name: &Text) -> Res
 fn declare_variables(alloc: Global, heap: &mut Heap, body: &[Statement]) -> Result<(), Halt>
     ensures { (all : List FunctionTree) (run : Body) → Works (spec.variables_declared all run (variables_of_all (statements_of body.now))) heap.old result heap.new }
 {
-    let names = variables_of(alloc, body)?;
+    let mut names = NameList::new(alloc);
+    add_variables(alloc, body, &mut names)?;
     declare_names(alloc, heap, names.as_slice())
 }
 

@@ -4,13 +4,13 @@ ghost use Rattle.heap_values.specs.declared.value.Value.{Value};
 ghost use Rattle.js_tree.specs.Tree.{statements_of};
 ghost use Rattle.js_tree.specs.View.{function_of};
 ghost use Rattle.js_evaluation.specs.Entries as entry;
-ghost use Rattle.js_evaluation.specs.Natives as native;
 ghost use Rattle.heap_steps.specs.Works.{Works};
 ghost use Rattle.js_entries.specs.Names as spec;
 
 use crate::arguments::bind_arguments;
 use heap_steps::{Halt, closure, write_name};
 use heap_values::{ScopeId, Value};
+use js_natives::argument;
 use js_tree::{BoundName, Function, FunctionPart, Place, Statement, StatementNode};
 use object_heap::Heap;
 use std::alloc::Global;
@@ -56,16 +56,6 @@ fn bind_parameters(
         values = behind_first(values);
     }
     Ok(())
-}
-
-/// The argument in a place, counted from 0; undefined where it is missing.
-pub fn argument(alloc: Global, arguments: &[Value], at: usize) -> Result<Value, Memory>
-    ensures { IfOk result (λ value. value ≡ native.argument at arguments.now) }
-{
-    match arguments.get(at) {
-        None => Ok(Value::Undefined),
-        Some(value) => value.copy(alloc),
-    }
 }
 
 /// The values behind the first.

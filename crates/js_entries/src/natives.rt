@@ -1,20 +1,21 @@
 // The built-in functions that code runs (ECMA-262 5.1, sections 15.2.4 and 15.11).
 ghost use Rattle.std.specs.Prelude.{◌≡◌, IfOk, Some};
+ghost use Rattle.js_evaluation.specs.Handed as handed;
 ghost use Rattle.js_evaluation.specs.Natives as native;
 ghost use Rattle.js_machine.specs.declared.machine.Machine.{Machine};
 ghost use Rattle.js_machine.specs.Moves.{Moves, at};
 ghost use Rattle.js_entries.specs.Natives as spec;
 
-use crate::names::argument;
 use heap_steps::{Halt, get, make_by, spend, throw_type_error};
 use heap_values::{BuiltIn, Kind, ObjectId, Value};
 use js_evaluation::Native;
-use js_expressions::primitive;
+use js_expressions::{arguments_converted, host_call, primitive};
 use js_frames::{Methods, Wanted};
 use js_machine::{Machine, Now, Step};
-use js_natives::{name_of, native_of};
+use js_natives::{argument, name_of, named, native_of};
 use js_tree::Place;
 use object_heap::Heap;
+use pac_functions::PacFunction;
 use std::alloc::Global;
 use utf16_text::{List, Memory, Text};
 
@@ -59,6 +60,26 @@ fn native_value<'p>(
         Native::ErrorToString => error_text(machine, &this, place),
         Native::ObjectToString => object_text(machine, &this, place),
         Native::ObjectValueOf => gives(machine, this, place),
+        Native::Pac(function) => pac_value(machine, function, arguments, place),
+    }
+}
+
+/// A function of the proxy format: the arguments that it names become primitive values, and then the host is asked or
+/// told.
+fn pac_value<'p>(
+    machine: &mut Machine<'p>,
+    function: PacFunction,
+    arguments: List<Value>,
+    place: Place,
+) -> Step<'p>
+    ensures { Moves (at machine.old spec.pac_value function arguments place) machine.old result machine.new }
+{
+    match named(function) {
+        None => host_call(machine, function, arguments, place),
+        Some(count) => {
+            let done = List::new(machine.alloc);
+            arguments_converted(machine, function, count, done, arguments, place)
+        }
     }
 }
 
@@ -164,8 +185,8 @@ fn class_in(heap: &Heap, value: &Value) -> &'static [u8]
     }
 }
 
-/// The class of an object of this kind.
-fn class_of(kind: Kind) -> &'static [u8]
+/// The class of an object of this kind (ECMA-262 5.1, section 15.2.4.2).
+pub fn class_of(kind: Kind) -> &'static [u8]
     ensures { result.now ≡ native.class_of_kind kind }
 {
     match kind {
@@ -178,8 +199,8 @@ fn class_of(kind: Kind) -> &'static [u8]
 }
 
 /// Gives a value; a text is counted.
-fn gives<'p>(machine: &mut Machine<'p>, value: Value, place: Place) -> Step<'p>
-    ensures { Moves (native.gives value place) machine.old result machine.new }
+pub fn gives<'p>(machine: &mut Machine<'p>, value: Value, place: Place) -> Step<'p>
+    ensures { Moves (handed.gives value place) machine.old result machine.new }
 {
     match value {
         Value::Text(text) => gives_text(machine, text, place),
@@ -189,7 +210,7 @@ fn gives<'p>(machine: &mut Machine<'p>, value: Value, place: Place) -> Step<'p>
 
 /// Gives a text, which is counted.
 fn gives_text<'p>(machine: &mut Machine<'p>, text: Text, place: Place) -> Step<'p>
-    ensures { Moves (native.gives_text text place) machine.old result machine.new }
+    ensures { Moves (handed.gives_text text place) machine.old result machine.new }
 {
     spend(&mut machine.state.heap, &text, place)?;
     Ok(Now::Back(Ok(Value::Text(text))))

@@ -20,6 +20,8 @@ use Rattle.run_trees.specs.declared.abrupt.Abrupt.TheVariants as ending
 use Rattle.run_trees.specs.RunTree.{RunTree, Done}
 use Rattle.run_trees.specs.Runs.{reading, ◌>>◌}
 use Rattle.run_trees.specs.WholeRun.{whole_run}
+use Rattle.pac_calendar.specs.declared.moment.Moments.{Moments}
+use Rattle.pac_functions.specs.declared.call.PacSettings.{PacSettings}
 use Rattle.js_evaluation.specs.declared.fault.Fault.{Fault}
 use Rattle.js_evaluation.specs.declared.fault.FaultCode.TheVariants as code
 use Rattle.js_evaluation.specs.State.{RunState, RunEnd, Comes, Faults, Does, fault, charge, test_text, global_object}
@@ -94,10 +96,12 @@ evaluation functions (suc room) part = charge (part_place part) >> node function
 abbrev pub most_open : ℕ
 most_open = 2000
 
--- what a run is for: the URL and its host as the script sees them, and the fuel
+-- what a run is for: the URL and its host as the script sees them, what clocks show, the settings, and the fuel
 pub record Entry : Type 0 where
   pub url : List ℕ
   pub host : List ℕ
+  pub now : Moments
+  pub settings : PacSettings
   pub fuel : ℕ
 
 -- the outermost scope
@@ -123,7 +127,8 @@ script_run ss functions entry =
     >> reading (λ s. called_for functions entry (entry_of s.heap (found_of s.heap global_id (codes "FindProxyForURL"))))
 
 abbrev pub first_state : Entry → RunState
-first_state entry = record { heap = fresh_heap; fuel = entry.fuel; base = value.Undefined }
+first_state entry =
+    record { heap = fresh_heap; fuel = entry.fuel; base = value.Undefined; now = entry.now; settings = entry.settings }
 
 -- a run as a tree of what it asks of its host; the heap at its beginning holds the built-in objects alone
 abbrev pub run_tree : Statements → List FunctionTree → Entry → RunTree RunEnd

@@ -1,5 +1,5 @@
 -- Worked examples of evaluation, from the text of a script to how its run ends, each by computation alone.
-use Rattle.std.specs.Prelude.{◌≡◌, ℕ, List, [], ◌∷◌, ◌++◌, map, codes, Result, Ok, refl}
+use Rattle.std.specs.Prelude.{◌≡◌, ℕ, pos, List, [], ◌∷◌, ◌++◌, map, codes, Result, Ok, refl}
 use Rattle.std.specs.FinMap as finite
 use Rattle.std.specs.Fmt.{digits}
 use Rattle.js_tree.specs.declared.place.Place.{Place}
@@ -12,25 +12,41 @@ use Rattle.js_evaluation.specs.declared.fault.FaultCode.TheVariants as code
 use Rattle.js_evaluation.specs.Expressions.{expression_node}
 use Rattle.js_evaluation.specs.Statements.{statement_node}
 use Rattle.js_evaluation.specs.Entries.{call_node, construct_node, load_node}
-use Rattle.js_evaluation.specs.Evaluation.{Entry, Ending, Gives, Fails, run_outcome, evaluation}
+use Rattle.js_evaluation.specs.Evaluation.{Outcome, Entry, Ending, Gives, Fails, run_outcome, evaluation}
 use Rattle.js_grammar.specs.Tokens.{piece_at, tokens_from}
 use Rattle.js_grammar.specs.Literals.{text_from}
 use Rattle.js_grammar.specs.Readers.{row_of, expect, name, any_word, semicolon, a_parameter, parameters}
 use Rattle.js_grammar.specs.Expressions.{a_statement, a_part, expression, in_parentheses, an_argument, arguments, item_value, an_item, named_property, a_property, function_from, function_expression, new_arguments, new_expression, primary, a_suffix, suffixed, postfix, unary, an_operand, chain, level, conditional, assignment}
 use Rattle.js_grammar.specs.Statements.{evaluated, block_from, block, first_value, a_declared, var_statement, one_branch, a_branch, otherwise, if_statement, do_statement, while_statement, optional_expression, for_from, for_in_from, for_var, for_value, for_statement, return_statement, throw_statement, clause_from, a_case, clauses, switch_statement, catch_part, finally_part, try_statement, function_statement, statement, deeper, script_within}
 use Rattle.js_binding.specs.Resolved.{expression_in, optional_in, expressions_in, items_in, properties_in, suffix_in, suffixes_in, operands_in, function_in, statement_in, otherwise_in, statements_in, declarations_in, branches_in, start_in, target_in, clauses_in, handler_in}
+use Rattle.pac_calendar.specs.declared.moment.Civil.{Civil}
 use Rattle.run_trees.specs.WholeRun.{rest_of_run}
 use Rattle.object_heap.specs.Fresh.{filled_objects, built_in_objects}
 
 abbrev nothing : AnswerMap
 nothing = finite.empty
 
--- how the run of a script ends with so much fuel, for the URL http://a/ and its host
-abbrev pub run_of : ℕ → List ℕ → Result Ending Refusal
-run_of fuel us = script_of_text us >>= λ body.
+-- Saturday, 28 November 2026, at noon
+abbrev noon : Civil
+noon = record { year = pos 2026; month = 11; day = 28; weekday = 6; hour = 12; minute = 0; second = 0 }
+
+-- the outcome of the run of a script with so much fuel, for the URL http://a/ and its host, at noon in GMT and in the
+-- zone, on the machine with the address 127.0.0.1, where no name has an address
+abbrev pub outcome_of : ℕ → List ℕ → Result Outcome Refusal
+outcome_of fuel us = script_of_text us >>= λ body.
     let program = resolved body in
-    let entry : Entry = record { url = codes "http://a/"; host = codes "a"; fuel = fuel } in
-    Ok (run_outcome program.0 program.1 entry nothing).ending
+    let entry : Entry = record {
+      url = codes "http://a/";
+      host = codes "a";
+      now = record { gmt = noon; local = noon };
+      settings = record { my_ip = 2130706433 };
+      fuel = fuel;
+    } in
+    Ok (run_outcome program.0 program.1 entry nothing)
+
+-- how that run ends
+abbrev pub run_of : ℕ → List ℕ → Result Ending Refusal
+run_of fuel us = outcome_of fuel us >>= λ outcome. Ok outcome.ending
 
 abbrev pub at : ℕ → ℕ → Place
 at line column = record { line = line; column = column }

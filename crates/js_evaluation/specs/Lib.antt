@@ -3,10 +3,13 @@ pub mod CostExamples
 pub mod Entries
 pub mod Evaluation
 pub mod Examples
+pub mod Handed
 pub mod Expressions
 pub mod NativeExamples
 pub mod Natives
 pub mod Objects
+pub mod PacExamples
+pub mod PacNatives
 pub mod RuleExamples
 pub mod State
 pub mod Statements

@@ -1,5 +1,5 @@
 -- The built-in functions that code runs: their numbers and names, and what each does (ECMA-262 5.1, sections 15.2 and
--- 15.11).
+-- 15.11; those of the proxy format are in PacNatives).
 use Rattle.std.specs.Prelude.{ℕ, List, [], ◌∷◌, ◌++◌, Bool, true, false, Option, Some, None, slice_get, codes}
 use Rattle.js_tree.specs.declared.place.Place.{Place}
 use Rattle.heap_values.specs.declared.ids.Kind.{Kind}
@@ -10,19 +10,28 @@ use Rattle.heap_values.specs.declared.built_in.BuiltIn.TheVariants as built_in
 use Rattle.heap_values.specs.declared.value.Value.{Value}
 use Rattle.heap_values.specs.declared.value.Value.TheVariants as value
 use Rattle.object_heap.specs.Heap.{object_at, kind_in}
+use Rattle.pac_functions.specs.declared.call.PacFunction.{PacFunction}
+use Rattle.pac_functions.specs.declared.call.PacFunction.TheVariants as function
 use Rattle.run_trees.specs.Runs.{pure, reading, ◌>>=◌, ◌>>◌}
 use Rattle.js_evaluation.specs.declared.native.Native.{Native}
 use Rattle.js_evaluation.specs.declared.native.Native.TheVariants as native
 use Rattle.js_evaluation.specs.State.{Does, make, define, spend, built_in_object, throw_type_error, unsupported}
 use Rattle.js_evaluation.specs.Objects.{get}
 use Rattle.js_evaluation.specs.Conversions.{Call, to_text}
+use Rattle.js_evaluation.specs.Handed.{argument, gives_text, gives}
+use Rattle.js_evaluation.specs.PacNatives.{pac_name, pac_value}
 
 -- in the order of their numbers
 abbrev pub natives : List Native
 natives =
     native.FunctionPrototype ∷ native.Object ∷ native.Array ∷ native.String ∷ native.Number ∷ native.Boolean ∷
     native.Error ∷ native.TypeError ∷ native.RangeError ∷ native.ReferenceError ∷
-    native.ErrorToString ∷ native.ObjectToString ∷ native.ObjectValueOf ∷ []
+    native.ErrorToString ∷ native.ObjectToString ∷ native.ObjectValueOf ∷
+    native.Pac function.IsPlainHostName ∷ native.Pac function.DnsDomainIs ∷ native.Pac function.LocalHostOrDomainIs ∷
+    native.Pac function.DnsDomainLevels ∷ native.Pac function.DnsResolve ∷ native.Pac function.IsResolvable ∷
+    native.Pac function.IsInNet ∷ native.Pac function.MyIpAddress ∷ native.Pac function.ShExpMatch ∷
+    native.Pac function.Alert ∷ native.Pac function.WeekdayRange ∷ native.Pac function.DateRange ∷
+    native.Pac function.TimeRange ∷ []
 
 -- the native of a number
 abbrev pub native_of : ℕ → Option Native
@@ -43,6 +52,7 @@ name_of native.ReferenceError = codes "ReferenceError"
 name_of native.ErrorToString = codes "Error.prototype.toString"
 name_of native.ObjectToString = codes "Object.prototype.toString"
 name_of native.ObjectValueOf = codes "Object.prototype.valueOf"
+name_of (native.Pac f) = pac_name f
 
 abbrev pub native_name : Option Native → List ℕ
 native_name None = []
@@ -64,24 +74,6 @@ is_error_maker (Some prototype) = true
 abbrev pub constructs : Option Native → Bool
 constructs None = false
 constructs (Some n) = is_error_maker (error_prototype n)
-
--- ---- what is handed in
-
--- the argument in a place, counted from 0; undefined where it is missing
-abbrev pub or_undefined : Option Value → Value
-or_undefined None = value.Undefined
-or_undefined (Some v) = v
-
-abbrev pub argument : ℕ → List Value → Value
-argument i vs = or_undefined (slice_get vs i)
-
--- a text that a native gives is counted
-abbrev pub gives_text : List ℕ → Place → Does Value
-gives_text t place = spend t place >> pure (value.Text t)
-
-abbrev pub gives : Value → Place → Does Value
-gives (value.Text t) place = gives_text t place
-gives v place = pure v
 
 -- ---- errors (15.11)
 
@@ -160,6 +152,7 @@ module _ (call : Call) where
   native_value native.ErrorToString this vs place = error_text this place
   native_value native.ObjectToString this vs place = object_text this place
   native_value native.ObjectValueOf this vs place = gives this place
+  native_value (native.Pac f) this vs place = pac_value call f vs place
 
   abbrev pub native_outcome : Option Native → Value → List Value → Place → Does Value
   native_outcome None this vs place = pure value.Undefined

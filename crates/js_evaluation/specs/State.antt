@@ -15,6 +15,8 @@ use Rattle.heap_values.specs.Views.{HeapView}
 use Rattle.heap_objects.specs.Object.{value_property}
 use Rattle.object_heap.specs.Fresh.{built_in_number}
 use Rattle.object_heap.specs.Heap.{made_of, scope_made_of, stored, slot_written_of, text_spent_of}
+use Rattle.pac_calendar.specs.declared.moment.Moments.{Moments}
+use Rattle.pac_functions.specs.declared.call.PacSettings.{PacSettings}
 use Rattle.js_evaluation.specs.declared.fault.Fault.{Fault}
 use Rattle.js_evaluation.specs.declared.fault.FaultCode.{FaultCode}
 use Rattle.js_evaluation.specs.declared.fault.FaultCode.TheVariants as code
@@ -24,11 +26,14 @@ use Rattle.run_trees.specs.declared.abrupt.Abrupt.TheVariants as ending
 use Rattle.run_trees.specs.Runs.{Run, pure, abrupt, halt, reading, changing, ◌>>=◌, ◌>>◌}
 
 -- What a run has of its own: its heap, the fuel that is left, and the base of the reference that was evaluated last
--- (8.7), which an assignment writes to and a call has as its `this`.
+-- (8.7), which an assignment writes to and a call has as its `this`. And what its script is told of its surroundings,
+-- which no rule changes: what clocks show, and the settings of the functions of the proxy format.
 pub record RunState : Type 0 where
   pub heap : HeapView
   pub fuel : ℕ
   pub base : Value
+  pub now : Moments
+  pub settings : PacSettings
 
 -- a throw, a return, a break or a continue
 abbrev pub Stop : Type 0

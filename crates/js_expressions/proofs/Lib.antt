@@ -1,5 +1,6 @@
 pub mod Binary
 pub mod CallSteps
+pub mod Converting
 pub mod FunctionValues
 pub mod Instances
 pub mod Methods
@@ -8,4 +9,5 @@ pub mod Objects
 pub mod Steps
 pub mod SuffixSteps
 pub mod Texts
+pub mod Walks
 pub mod Wholes

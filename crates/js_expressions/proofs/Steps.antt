@@ -15,7 +15,7 @@ use Rattle.heap_steps.specs.Works.{Works}
 use Rattle.js_machine.specs.declared.machine.Machine.{Machine}
 use Rattle.js_machine.specs.declared.now.Now.{Now}
 use Rattle.js_machine.specs.declared.now.Now.TheVariants as now
-use Rattle.js_machine.specs.Moves.{Moves, run_state, functions_of}
+use Rattle.js_machine.specs.Moves.{Moves, run_state, functions_of, beside_of}
 use Rattle.js_machine.proofs.Steps.{with_heap, charge_some, charge_none}
 
 -- what a step does from another part and machine, it does from these
@@ -67,7 +67,7 @@ module _ (part : Does Value) (m : Machine) where
   module _ (place : Place) where
     module _ (less : ℕ) (taken : less + 1 ≡ m.state.fuel) where
       from_charge : (after : AfterValue) → (charge place >> part) after (run_state m.state) ≡ part after (run_state (with_fuel m less).state)
-      from_charge after = charge_some place part after m.state.heap m.state.fuel less m.state.base taken
+      from_charge after = charge_some place part after m.state.heap m.state.fuel less (beside_of m.state) taken
 
       pub charged : (r : Result Now Halt) (m' : Machine) → Moves part (with_fuel m less) r m' → Moves (charge place >> part) m r m'
       charged (Ok what) m' k = record { goes = λ last. from_charge _ ∙ k.goes last; light = omega (arith, taken, k.light) }
@@ -80,4 +80,4 @@ module _ (part : Does Value) (m : Machine) where
     pub spent : (r : Result Now Halt) (e : Halt) (m' : Machine) → IsErrAnd r (λ x. x ≡ e) → (e ≡ halt.Fault code.FuelSpent place) × (m.state.fuel ≡ 0) → Moves (charge place >> part) m r m'
     spent (Ok what) e m' i h = absurd i
     spent (Err x) e m' i h = subst (λ y. Moves (charge place >> part) m (Err y) m') (sym (i ∙ h.0))
-        (record { goes = λ last. charge_none place part (rest_of (functions_of m) last m.frames) m.state.heap m.state.fuel m.state.base h.1; light = tt })
+        (record { goes = λ last. charge_none place part (rest_of (functions_of m) last m.frames) m.state.heap m.state.fuel (beside_of m.state) h.1; light = tt })

@@ -1,6 +1,7 @@
 // Errors that are made, and their texts (ECMA-262 5.1, section 15.11).
 ghost use Rattle.std.specs.Prelude.{◌≡◌, IfOk};
 ghost use Rattle.js_convert.specs.Texts.{text_of};
+ghost use Rattle.js_evaluation.specs.Handed as handed;
 ghost use Rattle.js_evaluation.specs.Natives as spec;
 ghost use Rattle.js_evaluation.specs.State as state;
 ghost use Rattle.js_frames.specs.RestOf.{with_primitive};
@@ -90,7 +91,7 @@ pub fn error_text<'p>(
     message: &Value,
     place: Place,
 ) -> Step<'p>
-    ensures { Moves (spec.gives_text (spec.joined name.now (text_of message.now)) place) machine.old result machine.new }
+    ensures { Moves (handed.gives_text (spec.joined name.now (text_of message.now)) place) machine.old result machine.new }
 {
     let message = to_text(machine.alloc, message)?;
     give_joined(machine, name, &message, place)
@@ -98,7 +99,7 @@ pub fn error_text<'p>(
 
 /// Gives a name and a message as one text, which is counted.
 fn give_joined<'p>(machine: &mut Machine<'p>, name: &Text, message: &Text, place: Place) -> Step<'p>
-    ensures { Moves (spec.gives_text (spec.joined name.now message.now) place) machine.old result machine.new }
+    ensures { Moves (handed.gives_text (spec.joined name.now message.now) place) machine.old result machine.new }
 {
     let text = joined(machine.alloc, name, message)?;
     spend(&mut machine.state.heap, &text, place)?;

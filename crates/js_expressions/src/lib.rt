@@ -3,6 +3,7 @@
 //! Each goes on from the machine as evaluation does from its rule. It stands on the machine.
 #![tactic(auto)]
 
+mod arguments;
 mod assignments;
 mod back;
 mod calls;
@@ -19,6 +20,7 @@ mod suffixes;
 mod unary;
 mod updates;
 
+pub use arguments::{arguments_converted, host_call};
 pub use back::{expression_back, suffix_back};
 pub use errors::{error_named, joined};
 pub use expression::{expression_node, target_node};

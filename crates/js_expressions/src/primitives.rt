@@ -8,6 +8,7 @@ ghost use Rattle.js_machine.specs.declared.machine.Machine.{Machine};
 ghost use Rattle.js_machine.specs.Moves.{Moves, at, resumed};
 ghost use Rattle.js_expressions.specs.Primitives as spec;
 
+use crate::arguments::argument_converted;
 use crate::errors::{error_by, error_named, error_text, type_error};
 use crate::operators::{operated, right_operand, with_in};
 use crate::suffixes::suffixes_from;
@@ -140,6 +141,13 @@ fn primitive_done<'p>(machine: &mut Machine<'p>, wanted: Wanted<'p>, value: Valu
         Wanted::Message { prototype, place } => error_by(machine, prototype, &value, place),
         Wanted::ErrorName { error, place } => error_named(machine, error, &value, place),
         Wanted::ErrorMessage { name, place } => error_text(machine, &name, &value, place),
+        Wanted::Argument {
+            function,
+            left,
+            done,
+            arguments,
+            place,
+        } => argument_converted(machine, function, left, done, arguments, place, value),
     }
 }
 

@@ -15,7 +15,9 @@ use Rattle.run_trees.specs.Runs.{ends, pure, abrupt, reading, onward, ◌>>=◌,
 use Rattle.js_evaluation.specs.State.{Does, define, set_base, the_base, global_object, throw}
 use Rattle.js_evaluation.specs.Objects.{Context, get, test_base, delete_property, delete_bound, read_or_undefined, write_name, has_property}
 use Rattle.js_evaluation.specs.Conversions as convert
+use Rattle.js_evaluation.specs.Handed as handed
 use Rattle.js_evaluation.specs.Natives as native
+use Rattle.js_evaluation.specs.PacNatives as pac
 use Rattle.js_evaluation.specs.Expressions as expression
 use Rattle.js_evaluation.specs.Statements as statement
 use Rattle.js_evaluation.specs.Evaluation.{evaluation, most_open}
@@ -84,8 +86,10 @@ module _ (functions : List FunctionTree) (go : Within) (cx : Context) where
   with_primitive (wanted.Message prototype place) v = native.make_error prototype (Some (text_of v)) place
   with_primitive (wanted.ErrorName error place) v =
       get (value.Object error) (codes "message") place >>= (λ m. native.text_or (rule.call functions go cx) [] m place
-      >>= (λ message. native.gives_text (native.joined (text_of v) message) place))
-  with_primitive (wanted.ErrorMessage name place) v = native.gives_text (native.joined name (text_of v)) place
+      >>= (λ message. handed.gives_text (native.joined (text_of v) message) place))
+  with_primitive (wanted.ErrorMessage name place) v = handed.gives_text (native.joined name (text_of v)) place
+  with_primitive (wanted.Argument f left done vs place) v =
+      pac.converted_from (rule.call functions go cx) f left (done ++ v ∷ []) vs place
 
   -- ---- expressions (11)
 

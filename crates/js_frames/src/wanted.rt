@@ -2,7 +2,8 @@
 use crate::{Aim, Reference};
 use heap_values::{BuiltIn, ObjectId, Value};
 use js_tree::{BinaryOp, Operand, Place, Suffix, UpdateForm, UpdateOp};
-use utf16_text::Text;
+use pac_functions::PacFunction;
+use utf16_text::{List, Text};
 
 /// The methods of an object that are still to be asked for a primitive value (ECMA-262 5.1, section 8.12.8).
 #[derive(Clone, Copy, Debug, PartialEq, Eq)]
@@ -92,6 +93,14 @@ pub enum Wanted<'p> {
     /// The message of an error that becomes a text, with its name.
     ErrorMessage {
         name: Text,
+        place: Place,
+    },
+    /// An argument of a function of the proxy format, behind those that are done; left: how many come behind it.
+    Argument {
+        function: PacFunction,
+        left: usize,
+        done: List<Value>,
+        arguments: List<Value>,
         place: Place,
     },
 }

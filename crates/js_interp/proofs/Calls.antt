@@ -14,25 +14,44 @@ use Rattle.js_evaluation.specs.State.{Stop, Does, test_text, built_in_object, gl
 use Rattle.js_evaluation.specs.Objects.{global_id}
 use Rattle.js_evaluation.specs.Evaluation as def
 use Rattle.js_evaluation.specs.Evaluation.{evaluation, most_open, call_part, called_for, entry_of, outside}
+use Rattle.js_evaluation.specs.declared.fault.FaultCode.TheVariants as code
+use Rattle.js_host.specs.Seen.{Seen}
+use Rattle.run_trees.specs.RunTree.{walk}
 use Rattle.heap_steps.specs.declared.halt.Halt.{Halt}
+use Rattle.heap_steps.specs.declared.halt.Halt.TheVariants as halt
 use Rattle.heap_steps.specs.Works.{Works}
 use Rattle.heap_steps.proofs.Chains.{chained, stops}
 use Rattle.js_machine.specs.declared.machine.Machine.{Machine}
 use Rattle.js_machine.specs.declared.now.Now.TheVariants as now
 use Rattle.js_machine.specs.declared.now.Part.TheVariants as part
 use Rattle.js_machine.specs.Moves.{functions_of, run_state}
+use Rattle.js_runs.specs.declared.running.Cut.{Cut}
+use Rattle.js_runs.specs.declared.running.Cut.TheVariants as cut
 use Rattle.js_runs.specs.Closes.{Closes}
 use Rattle.js_interp.specs.Runs.{Reaches, RunsBy, called}
 use Rattle.js_interp.proofs.Runs.{loop_runs, heap_then, heap_stops}
 
-module _ (functions : List FunctionTree) (entry : def.Entry) (m : Machine) (r : Result (Result Value Stop) Halt) (m' : Machine) where
+module _ (functions : List FunctionTree) (entry : def.Entry) (m : Machine) (before : Seen) (r : Result (Result Value Stop) Cut) (m' : Machine) (after : Seen) where
   -- what the name of the script's function stands for is called
   pub found_runs : (f : Option ObjectId) → f ≡ entry_of m.state.heap (found_of m.state.heap global_id (codes "FindProxyForURL"))
-      → RunsBy (called_for functions entry f) m r m' → RunsBy (called functions entry) m r m'
+      → RunsBy (called_for functions entry f) m before r m' after → RunsBy (called functions entry) m before r m' after
   found_runs f is k last =
-      subst (λ (g : Option ObjectId). Reaches last (called_for functions entry g last (run_state m.state)) r m') is (k last)
+      subst (λ (g : Option ObjectId). Reaches last (walk (called_for functions entry g last (run_state m.state)) before) r m' after) is (k last)
 
-module _ (functions : List FunctionTree) (entry : def.Entry) (f : ObjectId) (m : Machine) (r : Result (Result Value Stop) Halt) where
+-- there is none
+not_found : (functions : List FunctionTree) (entry : def.Entry) (m : Machine) (before : Seen)
+    → RunsBy (called_for functions entry None) m before (Err (cut.Halt (halt.Fault code.NoEntry outside))) m before
+unfolding walk
+not_found functions entry m before last = refl
+
+pub none_runs : (functions : List FunctionTree) (entry : def.Entry) (m : Machine) (before : Seen) (f : Option ObjectId)
+    → f ≡ entry_of m.state.heap (found_of m.state.heap global_id (codes "FindProxyForURL")) → ((id : ObjectId) → f ≡ Some id → ⊥)
+    → RunsBy (called functions entry) m before (Err (cut.Halt (halt.Fault code.NoEntry outside))) m before
+none_runs functions entry m before (Some id) is none = absurd (none id refl)
+none_runs functions entry m before None is none =
+    found_runs functions entry m before (Err (cut.Halt (halt.Fault code.NoEntry outside))) m before None is (not_found functions entry m before)
+
+module _ (functions : List FunctionTree) (entry : def.Entry) (f : ObjectId) (m : Machine) (before : Seen) (r : Result (Result Value Stop) Cut) where
   abbrev of_url : Does (Unit {0})
   of_url = test_text entry.url outside
 
@@ -43,31 +62,31 @@ module _ (functions : List FunctionTree) (entry : def.Entry) (f : ObjectId) (m :
   entered = evaluation functions most_open (call_part f global_object (value.Text entry.url ∷ value.Text entry.host ∷ []) outside)
 
   -- both texts are short enough
-  pub tested_runs : (m' : Machine) → Works of_url m.state.heap (Ok tt) m.state.heap → Works of_host m.state.heap (Ok tt) m.state.heap
-      → RunsBy entered m r m' → RunsBy (called_for functions entry (Some f)) m r m'
-  tested_runs m' url host k =
-      heap_then (of_url >>= (λ _. of_host)) (λ _. entered) m m.state.heap tt r m'
+  pub tested_runs : (m' : Machine) (after : Seen) → Works of_url m.state.heap (Ok tt) m.state.heap → Works of_host m.state.heap (Ok tt) m.state.heap
+      → RunsBy entered m before r m' after → RunsBy (called_for functions entry (Some f)) m before r m' after
+  tested_runs m' after url host k =
+      heap_then (of_url >>= (λ _. of_host)) (λ _. entered) m before m.state.heap tt r m' after
       (chained of_url (λ _. of_host) m.state.heap m.state.heap tt (Ok tt) m.state.heap url host) k
 
   -- one of them isn't
-  pub url_stops : (e : Halt) → IsErrAnd r (λ x. x ≡ e) → Works of_url m.state.heap (Err e) m.state.heap → RunsBy (called_for functions entry (Some f)) m r m
+  pub url_stops : (e : Halt) → IsErrAnd r (λ x. x ≡ cut.Halt e) → Works of_url m.state.heap (Err e) m.state.heap → RunsBy (called_for functions entry (Some f)) m before r m before
   url_stops e i url =
-      heap_stops (of_url >>= (λ _. of_host)) (λ _. entered) m m.state.heap r e i
+      heap_stops (of_url >>= (λ _. of_host)) (λ _. entered) m before m.state.heap r e i
       (stops of_url (λ _. of_host) m.state.heap m.state.heap (Err e) e refl url)
 
-  pub host_stops : (e : Halt) → IsErrAnd r (λ x. x ≡ e) → Works of_url m.state.heap (Ok tt) m.state.heap → Works of_host m.state.heap (Err e) m.state.heap
-      → RunsBy (called_for functions entry (Some f)) m r m
+  pub host_stops : (e : Halt) → IsErrAnd r (λ x. x ≡ cut.Halt e) → Works of_url m.state.heap (Ok tt) m.state.heap → Works of_host m.state.heap (Err e) m.state.heap
+      → RunsBy (called_for functions entry (Some f)) m before r m before
   host_stops e i url host =
-      heap_stops (of_url >>= (λ _. of_host)) (λ _. entered) m m.state.heap r e i
+      heap_stops (of_url >>= (λ _. of_host)) (λ _. entered) m before m.state.heap r e i
       (chained of_url (λ _. of_host) m.state.heap m.state.heap tt (Err e) m.state.heap url host)
 
 -- the loop does the call
-pub call_runs : (entry : def.Entry) (f global : ObjectId) (arguments : List Value) (m : Machine) (r : Result (Result Value Stop) Halt) (m' : Machine)
+pub call_runs : (entry : def.Entry) (f global : ObjectId) (arguments : List Value) (m : Machine) (before : Seen) (r : Result (Result Value Stop) Cut) (m' : Machine) (after : Seen)
     → m.frames ≡ [] → global.0 ≡ built_in_number built_in.Global → arguments ≡ value.Text entry.url ∷ value.Text entry.host ∷ []
-    → Closes m (now.Begin (part.Call f (value.Object global) arguments outside)) r m'
-    → RunsBy (evaluation (functions_of m) most_open (call_part f global_object (value.Text entry.url ∷ value.Text entry.host ∷ []) outside)) m r m'
-call_runs entry f global arguments m r m' empty is handed k =
+    → Closes m (now.Begin (part.Call f (value.Object global) arguments outside)) before r m' after
+    → RunsBy (evaluation (functions_of m) most_open (call_part f global_object (value.Text entry.url ∷ value.Text entry.host ∷ []) outside)) m before r m' after
+call_runs entry f global arguments m before r m' after empty is handed k =
     let same : global ≡ built_in_object built_in.Global = ap (λ (n : ℕ). record { 0 = n }) is in
-    subst (λ (vs : List Value). RunsBy (evaluation (functions_of m) most_open (call_part f global_object vs outside)) m r m') handed
-    (subst (λ (id : ObjectId). RunsBy (evaluation (functions_of m) most_open (call_part f (value.Object id) arguments outside)) m r m') same
-    (loop_runs m (part.Call f (value.Object global) arguments outside) r m' empty k))
+    subst (λ (vs : List Value). RunsBy (evaluation (functions_of m) most_open (call_part f global_object vs outside)) m before r m' after) handed
+    (subst (λ (id : ObjectId). RunsBy (evaluation (functions_of m) most_open (call_part f (value.Object id) arguments outside)) m before r m' after) same
+    (loop_runs m (part.Call f (value.Object global) arguments outside) before r m' after empty k))

@@ -15,7 +15,8 @@ use Rattle.js_interp.specs.declared.one_run.RunAnswer.TheVariants as answer
 use Rattle.js_interp.specs.Endings.{seen_ending}
 
 abbrev pub entry_of : Entry → def.Entry
-entry_of entry = record { url = entry.url; host = entry.host; fuel = entry.fuel }
+entry_of entry =
+    record { url = entry.url; host = entry.host; now = entry.now; settings = entry.settings; fuel = entry.fuel }
 
 -- an outcome, as the definition of a run has it
 abbrev pub seen_outcome : Outcome → def.Outcome

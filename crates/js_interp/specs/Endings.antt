@@ -9,7 +9,7 @@ use Rattle.js_evaluation.specs.Evaluation as def
 use Rattle.js_evaluation.specs.Evaluation.{Gives, Fails, ending_of}
 use Rattle.heap_steps.specs.declared.halt.Halt.{Halt}
 use Rattle.heap_steps.specs.declared.halt.Halt.TheVariants as halt
-use Rattle.heap_steps.specs.Works.{state_with, plain_fault, left_out}
+use Rattle.heap_steps.specs.Works.{Beside, state_with, plain_fault, left_out}
 use Rattle.js_interp.specs.declared.outcome.Ending.{Ending}
 use Rattle.js_interp.specs.declared.outcome.Ending.TheVariants as answer
 
@@ -32,4 +32,4 @@ ending_by (Some end) = Some (ending_of end)
 
 -- the ending is that of what the machine came to; there is none where memory was refused
 abbrev pub EndsBy : HeapView → Result (Result Value Stop) Halt → Result Ending Memory → Type 0
-EndsBy heap end result = IfOk result (λ e. (fuel : ℕ) (base : Value) → ending_by (end_of end (state_with heap fuel base)) ≡ Some (seen_ending e))
+EndsBy heap end result = IfOk result (λ e. (fuel : ℕ) (beside : Beside) → ending_by (end_of end (state_with heap fuel beside)) ≡ Some (seen_ending e))

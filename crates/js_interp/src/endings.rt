@@ -13,6 +13,7 @@ use crate::Ending;
 use heap_steps::Halt;
 use heap_values::{Found, Kind, ObjectId, Value};
 use js_convert::to_text;
+use js_entries::class_of;
 use js_evaluation::{Fault, FaultCode, Thrown};
 use js_expressions::joined;
 use js_machine::End;
@@ -116,10 +117,7 @@ fn object_text(alloc: Global, heap: &Heap, object: ObjectId) -> Result<Text, Mem
 {
     match heap.kind(object) {
         Kind::Error => error_text(alloc, heap, object),
-        Kind::Plain => Text::from_latin_1(alloc, b"[object Object]"),
-        Kind::Array => Text::from_latin_1(alloc, b"[object Array]"),
-        Kind::Function(_, _) => Text::from_latin_1(alloc, b"[object Function]"),
-        Kind::Native(_) => Text::from_latin_1(alloc, b"[object Function]"),
+        kind => Text::from_latin_1(alloc, class_of(kind)),
     }
 }
 

@@ -10,7 +10,8 @@ ghost use Rattle.js_machine.specs.Moves.{functions_of};
 ghost use Rattle.js_host.specs.Answers.{Knowledge};
 ghost use Rattle.js_host.specs.Seen.{fresh};
 ghost use Rattle.js_interp.specs.Answers.{Answers, entry_of, run_of};
-ghost use Rattle.js_interp.specs.Runs.{Begun, EndsAs, RunsBy, called};
+ghost use Rattle.js_interp.specs.Runs.{Begun, EndsOver, KeepsAlerts, RunsBy, called};
+ghost use Rattle.js_runs.specs.Closes.{KeptAtEnd};
 
 use crate::endings::{OUTSIDE, ending};
 use crate::{Ending, Entry, Outcome};
@@ -20,7 +21,7 @@ use js_evaluation::FaultCode;
 use js_frames::{Context, Frames};
 use js_host::Host;
 use js_machine::{End, Machine, Part, State};
-use js_runs::run_on;
+use js_runs::{Cut, run_on};
 use js_scope::Program;
 use js_tree::{Function, Statement};
 use object_heap::Heap;
@@ -51,34 +52,63 @@ pub fn run<H: Host, L: Ledger>(
     host: &mut H,
     runs: &mut Steps<L>,
 ) -> RunAnswer
-    ensures answers { (known : Knowledge) → H.seen host.old ≡ fresh known
-        → Answers (run_of (statements_of program.now.body) (scoped.functions_of program.now.functions) entry.now) known result (H.seen host.new) }
-    ensures known { (H.seen host.new).known ≡ (H.seen host.old).known }
+    ensures answers {
+        (known : Knowledge) → H.seen host.old ≡ fresh known
+        → Answers (run_of (statements_of program.now.body) (scoped.functions_of program.now.functions) entry.entry.now)
+        known result (H.seen host.new)
+    }
     ensures counts { runs.new ≡ runs.old + 1 }
 {
-    let _ = host;
     runs.tick();
-    match run_alone(alloc, program, entry) {
-        Ok(ending) => RunAnswer::Done(Outcome {
-            ending,
-            alerts: TextList::new(alloc),
-        }),
-        Err(Memory) => RunAnswer::Memory,
+    let mut alerts = TextList::new(alloc);
+    match run_over(alloc, program, entry, host, &mut alerts) {
+        Ok(ending) => RunAnswer::Done(Outcome { ending, alerts }),
+        Err(Unfinished::Missing(name)) => RunAnswer::Missing(name),
+        Err(Unfinished::Memory) => RunAnswer::Memory,
     }
 }
 
-/// A run that asks nothing of its host.
-fn run_alone(alloc: Global, program: &Program, entry: &Entry) -> Result<Ending, Memory>
-    ensures { IfOk result (λ ending. EndsAs (statements_of program.now.body) (scoped.functions_of program.now.functions) (entry_of entry.now) ending) }
+/// Why a run gives no outcome.
+#[derive(Drop)]
+pub(crate) enum Unfinished {
+    Missing(LookupName),
+    Memory,
+}
+
+impl From<Memory> for Unfinished {
+    ghost use Rattle.std.specs.Prelude.{◌≡◌};
+    ghost use Rattle.js_interp.specs.declared.one_run.Unfinished.TheVariants as unfinished;
+
+    ghost from_gives = { λ _ why. why ≡ unfinished.Memory };
+
+    fn from(_memory: Memory) -> Unfinished {
+        Unfinished::Memory
+    }
+}
+
+/// A run over the host, to its end or to a name that the host doesn't know. What the script tells the host is kept in
+/// `alerts` too.
+fn run_over<H: Host>(
+    alloc: Global,
+    program: &Program,
+    entry: &Entry,
+    host: &mut H,
+    alerts: &mut TextList,
+) -> Result<Ending, Unfinished>
+    ensures ends { EndsOver (run_of (statements_of program.now.body) (scoped.functions_of program.now.functions) entry.entry.now) (H.seen host.old) result (H.seen host.new) }
+    ensures keeps { alerts.old ≡ (H.seen host.old).alerts → KeepsAlerts result alerts.new (H.seen host.new).alerts }
 {
-    let mut machine = begin(alloc, program.functions.as_slice(), entry.fuel)?;
-    let end = run_whole(&mut machine, program.body.as_slice(), entry);
-    ending(alloc, &machine.state.heap, end)
+    let mut machine = begin(alloc, program.functions.as_slice(), entry)?;
+    match run_whole(&mut machine, program.body.as_slice(), entry, host, alerts) {
+        Ok(end) => Ok(ending(alloc, &machine.state.heap, Ok(end))?),
+        Err(Cut::Halt(halt)) => Ok(ending(alloc, &machine.state.heap, Err(halt))?),
+        Err(Cut::Missing(name)) => Err(Unfinished::Missing(name)),
+    }
 }
 
 /// The machine before anything is done.
-fn begin<'p>(alloc: Global, functions: &'p [Function], fuel: u64) -> Result<Machine<'p>, Memory>
-    ensures { IfOk result (λ machine. Begun functions.entry fuel machine) }
+fn begin<'p>(alloc: Global, functions: &'p [Function], entry: &Entry) -> Result<Machine<'p>, Memory>
+    ensures { IfOk result (λ machine. Begun functions.entry entry.entry.now machine) }
 {
     let heap = Heap::new(alloc)?;
     let this = Value::Object(heap.built_in(BuiltIn::Global));
@@ -90,50 +120,59 @@ fn begin<'p>(alloc: Global, functions: &'p [Function], fuel: u64) -> Result<Mach
         frames: Frames::new(alloc)?,
         state: State {
             heap,
-            fuel,
+            fuel: entry.fuel,
             base: Value::Undefined,
+            now: entry.now,
+            settings: entry.settings,
         },
     })
 }
 
 /// Loads the script, and calls its function.
-fn run_whole<'p>(
+fn run_whole<'p, H: Host>(
     machine: &mut Machine<'p>,
     body: &'p [Statement],
     entry: &Entry,
-) -> Result<End, Halt>
+    host: &mut H,
+    alerts: &mut TextList,
+) -> Result<End, Cut>
     requires { machine.old.frames ≡ [] }
-    ensures { RunsBy (spec.script_run (statements_of body.entry.now) (functions_of machine.old) (entry_of entry.now)) machine.old result machine.new }
+    ensures runs { RunsBy (spec.script_run (statements_of body.entry.now) (functions_of machine.old) (entry_of entry.entry.now)) machine.old (H.seen host.old) result machine.new (H.seen host.new) }
+    ensures keeps { alerts.old ≡ (H.seen host.old).alerts → KeptAtEnd result alerts.new (H.seen host.new).alerts }
 {
     let functions = machine.functions;
-    match run_on(machine, Part::Load(body))? {
-        Ok(_) => call_entry(machine, functions, entry),
+    match run_on(machine, Part::Load(body), host, alerts)? {
+        Ok(_) => call_entry(machine, functions, entry, host, alerts),
         Err(stop) => Ok(Err(stop)),
     }
 }
 
 /// Calls the function of the script, where there is one and both texts are short enough. functions: those of the script
 /// that is loaded.
-fn call_entry<'p>(
+fn call_entry<'p, H: Host>(
     machine: &mut Machine<'p>,
     functions: &'p [Function],
     entry: &Entry,
-) -> Result<End, Halt>
+    host: &mut H,
+    alerts: &mut TextList,
+) -> Result<End, Cut>
     requires { machine.old.frames ≡ [] }
-    ensures { RunsBy (called (scoped.functions_of functions.entry.now) (entry_of entry.now)) machine.old result machine.new }
+    ensures runs { RunsBy (called (scoped.functions_of functions.entry.now) (entry_of entry.entry.now)) machine.old (H.seen host.old) result machine.new (H.seen host.new) }
+    ensures keeps { alerts.old ≡ (H.seen host.old).alerts → KeptAtEnd result alerts.new (H.seen host.new).alerts }
 {
     machine.functions = functions;
     let Some(function) = entry_function(machine.alloc, &machine.state.heap)? else {
-        return Err(Halt::Fault {
+        return Err(Cut::Halt(Halt::Fault {
             code: FaultCode::NoEntry,
             place: OUTSIDE,
-        });
+        }));
     };
     test_text(&entry.url, OUTSIDE)?;
     test_text(&entry.host, OUTSIDE)?;
     let this = Value::Object(machine.state.heap.built_in(BuiltIn::Global));
     let arguments = arguments(machine.alloc, entry)?;
-    run_on(machine, Part::Call(function, this, arguments, OUTSIDE))
+    let call = Part::Call(function, this, arguments, OUTSIDE);
+    run_on(machine, call, host, alerts)
 }
 
 /// The function of the script, where its name stands for one.
@@ -150,7 +189,7 @@ fn entry_function(alloc: Global, heap: &Heap) -> Result<Option<ObjectId>, Memory
 
 /// The arguments that the function is called with.
 fn arguments(alloc: Global, entry: &Entry) -> Result<List<Value>, Memory>
-    ensures { IfOk result (λ vs. vs ≡ value.Text entry.now.url ∷ value.Text entry.now.host ∷ []) }
+    ensures { IfOk result (λ vs. vs ≡ value.Text entry.entry.now.url ∷ value.Text entry.entry.now.host ∷ []) }
 {
     let mut arguments = List::new(alloc);
     arguments.push(alloc, Value::Text(entry.url.copy(alloc)?))?;

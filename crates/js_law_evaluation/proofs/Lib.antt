@@ -1,6 +1,8 @@
 pub mod OfState
+pub mod OfHanded
 pub mod OfObjects
 pub mod OfConversions
+pub mod OfPacNatives
 pub mod OfNatives
 pub mod OfExpressions
 pub mod OfStatements

@@ -8,7 +8,7 @@ use Rattle.js_tree.specs.declared.operators.UpdateOp.{UpdateOp}
 use Rattle.js_tree.specs.declared.operators.UpdateOp.TheVariants as update
 use Rattle.heap_values.specs.declared.ids.ObjectId.{ObjectId}
 use Rattle.heap_values.specs.declared.value.Value.{Value}
-use Rattle.heap_values.specs.declared.value.Value.TheVariants.{Bool as Truth, Text, Object}
+use Rattle.heap_values.specs.declared.value.Value.TheVariants.{Bool as Truth, Object}
 use Rattle.whole_number.specs.declared.answer.WholeAnswer.{WholeAnswer}
 use Rattle.whole_number.specs.declared.answer.WholeAnswer.TheVariants as whole
 use Rattle.whole_number.specs.Whole.{whole_of}
@@ -19,8 +19,9 @@ use Rattle.js_convert.specs.Numeric.{numeric_of}
 use Rattle.js_convert.specs.Texts.{text_of}
 use Rattle.js_convert.specs.Operators.{operator_value, is_object}
 use Rattle.js_evaluation.specs.Objects.{is_callable}
-use Rattle.js_evaluation.specs.Conversions.{Call, number_methods, text_methods, call_value_if, call_value, primitive_by, to_primitive, number_or_fault, to_number, to_text, bits_or_fault, to_bits, counted, operated, takes_primitives, operate, is_in, instance_of_by, instance_of, binary, whole_or_fault, stepped}
-use Rattle.js_law_evaluation.proofs.OfState.{Ends, gives, fails, reads, ◌onto◌, ◌then◌, either, spend-ends, throw_type_error-ends}
+use Rattle.js_evaluation.specs.Conversions.{Call, number_methods, text_methods, call_value_if, call_value, primitive_by, to_primitive, number_or_fault, to_number, to_text, bits_or_fault, to_bits, operated, takes_primitives, operate, is_in, instance_of_by, instance_of, binary, whole_or_fault, stepped}
+use Rattle.js_law_evaluation.proofs.OfState.{Ends, gives, fails, reads, ◌onto◌, either, throw_type_error-ends}
+use Rattle.js_law_evaluation.proofs.OfHanded.{given-ends}
 use Rattle.js_law_evaluation.proofs.OfObjects.{get-ends, has_property-ends, stands_among-ends}
 
 pub number_or_fault-ends : (call : Call) (n : Numeric) (place : Place) → Ends (number_or_fault call n place)
@@ -45,12 +46,8 @@ pub stepped-ends : (call : Call) (o : UpdateOp) (n : ℤ) (place : Place) → En
 stepped-ends call update.Increment n place = whole_or_fault-ends call (whole_of (n +ℤ pos 1)) place
 stepped-ends call update.Decrement n place = whole_or_fault-ends call (whole_of (n -ℤ pos 1)) place
 
-counted-ends : (call : Call) (v : Value) (place : Place) → Ends (counted call v place)
-counted-ends call (Text t) place = spend-ends t place then gives (Text t)
-counted-ends call v place = gives v
-
 operated-ends : (call : Call) (result : Result Value ConvertAnswer) (place : Place) → Ends (operated call result place)
-operated-ends call (Ok v) place = counted-ends call v place
+operated-ends call (Ok v) place = given-ends v place
 operated-ends call (Err e) place = fails _ place
 
 instance_of_by-ends : (call : Call) (v f : Value) (place : Place) → Ends (instance_of_by call v f place)

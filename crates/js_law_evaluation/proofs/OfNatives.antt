@@ -12,17 +12,13 @@ use Rattle.js_evaluation.specs.declared.native.Native.{Native}
 use Rattle.js_evaluation.specs.declared.native.Native.TheVariants as native
 use Rattle.js_evaluation.specs.State.{built_in_object}
 use Rattle.js_evaluation.specs.Conversions.{Call}
-use Rattle.js_evaluation.specs.Natives.{gives_text, gives as given, error_with, make_error, error_prototype, argument, joined, class_of, optional_text, text_or, error_value, error_text, object_text, native_value, native_outcome}
-use Rattle.js_law_evaluation.proofs.OfState.{Ends, gives, halts, reads, ◌onto◌, ◌then◌, spend-ends, make-ends, define-ends, throw_type_error-ends}
+use Rattle.js_evaluation.specs.Handed.{argument}
+use Rattle.js_evaluation.specs.Natives.{error_with, make_error, error_prototype, joined, class_of, optional_text, text_or, error_value, error_text, object_text, native_value, native_outcome}
+use Rattle.js_law_evaluation.proofs.OfState.{Ends, gives, halts, reads, ◌onto◌, ◌then◌, make-ends, define-ends, throw_type_error-ends}
+use Rattle.js_law_evaluation.proofs.OfHanded.{gives_text-ends, given-ends}
 use Rattle.js_law_evaluation.proofs.OfObjects.{get-ends}
 use Rattle.js_law_evaluation.proofs.OfConversions.{CallsEnd, to_text-ends}
-
-gives_text-ends : (t : List ℕ) (place : Place) → Ends (gives_text t place)
-gives_text-ends t place = spend-ends t place then gives (value.Text t)
-
-given-ends : (v : Value) (place : Place) → Ends (given v place)
-given-ends (value.Text t) place = gives_text-ends t place
-given-ends v place = gives v
+use Rattle.js_law_evaluation.proofs.OfPacNatives.{pac_value-ends}
 
 error_with-ends : (error : ObjectId) (message : Option (List ℕ)) (place : Place) → Ends (error_with error message place)
 error_with-ends error None place = gives (value.Object error)
@@ -73,6 +69,7 @@ module _ (call : Call) (call-ends : CallsEnd call) where
   native_value-ends native.ErrorToString this vs place = error_text-ends this place
   native_value-ends native.ObjectToString this vs place = object_text-ends this place
   native_value-ends native.ObjectValueOf this vs place = given-ends this place
+  native_value-ends (native.Pac f) this vs place = pac_value-ends call call-ends f vs place
 
   pub native_outcome-ends : (n : Option Native) (this : Value) (vs : List Value) (place : Place) → Ends (native_outcome call n this vs place)
   native_outcome-ends None this vs place = gives value.Undefined

@@ -18,8 +18,8 @@ use Rattle.heap_steps.specs.declared.halt.Halt.{Halt}
 use Rattle.heap_steps.specs.declared.halt.Halt.TheVariants as halt
 use Rattle.js_machine.specs.declared.machine.Machine.{Machine}
 use Rattle.js_machine.specs.declared.now.Now.{Now}
-use Rattle.heap_steps.specs.Works.{Works, state_with, plain_fault}
-use Rattle.js_machine.specs.Moves.{Moves, left, functions_of, inner, Descends}
+use Rattle.heap_steps.specs.Works.{Works, Beside, state_with, plain_fault}
+use Rattle.js_machine.specs.Moves.{beside_of, Moves, left, functions_of, inner, Descends}
 
 -- ---- rules that stop
 
@@ -60,18 +60,18 @@ module _ {A : Type 0} (part : Does A) (next : A → Does Value) (m : Machine) (h
 
 -- ---- fuel
 
-pub charge_some : {A : Type 0} (place : Place) (next : Does A) (after : After RunState Stop RunEnd A) (h : HeapView) (fuel less : ℕ) (base : Value) → less + 1 ≡ fuel
-    → (charge place >> next) after (state_with h fuel base) ≡ next after (state_with h less base)
-charge_some place next after h fuel less base e =
+pub charge_some : {A : Type 0} (place : Place) (next : Does A) (after : After RunState Stop RunEnd A) (h : HeapView) (fuel less : ℕ) (beside : Beside) → less + 1 ≡ fuel
+    → (charge place >> next) after (state_with h fuel beside) ≡ next after (state_with h less beside)
+charge_some place next after h fuel less beside e =
     let enough : nat_lt fuel 1 ≡ false = le-ltb fuel 1 (omega arith) in
     let rest : fuel - 1 ≡ less = omega arith in
-    ap (λ (b : Bool). (if b then fault code.FuelSpent place else λ k s. k (Ok tt) (record s { fuel = s.fuel - 1 })) (onward (λ _. next) after) (state_with h fuel base)) enough
-    ∙ ap (λ n. next after (state_with h n base)) rest
+    ap (λ (b : Bool). (if b then fault code.FuelSpent place else λ k s. k (Ok tt) (record s { fuel = s.fuel - 1 })) (onward (λ _. next) after) (state_with h fuel beside)) enough
+    ∙ ap (λ n. next after (state_with h n beside)) rest
 
-pub charge_none : {A : Type 0} (place : Place) (next : Does A) (after : After RunState Stop RunEnd A) (h : HeapView) (fuel : ℕ) (base : Value) → fuel ≡ 0
-    → (charge place >> next) after (state_with h fuel base) ≡ Done (Faults (plain_fault code.FuelSpent place))
-charge_none place next after h fuel base e =
-    ap (λ n. (charge place >> next) after (state_with h n base)) e
+pub charge_none : {A : Type 0} (place : Place) (next : Does A) (after : After RunState Stop RunEnd A) (h : HeapView) (fuel : ℕ) (beside : Beside) → fuel ≡ 0
+    → (charge place >> next) after (state_with h fuel beside) ≡ Done (Faults (plain_fault code.FuelSpent place))
+charge_none place next after h fuel beside e =
+    ap (λ n. (charge place >> next) after (state_with h n beside)) e
 
 -- ---- beginning a part
 
@@ -87,10 +87,10 @@ pub begun_none : (functions : List FunctionTree) (n : ℕ) (part : Part) → n �
 unfolding evaluation
 begun_none functions n part none = ap (λ m. evaluation functions m part) none
 
-pub begun_spent : (functions : List FunctionTree) (n : ℕ) (part : Part) (after : AfterValue) (h : HeapView) (base : Value) → evaluation functions n part after (state_with h 0 base) ≡ Done (Faults (plain_fault code.FuelSpent (part_place part)))
+pub begun_spent : (functions : List FunctionTree) (n : ℕ) (part : Part) (after : AfterValue) (h : HeapView) (beside : Beside) → evaluation functions n part after (state_with h 0 beside) ≡ Done (Faults (plain_fault code.FuelSpent (part_place part)))
 unfolding evaluation
-begun_spent functions zero part after h base = refl
-begun_spent functions (suc n) part after h base = refl
+begun_spent functions zero part after h beside = refl
+begun_spent functions (suc n) part after h beside = refl
 
 module _ (place : Place) (m : Machine) where
   -- no fuel is left
@@ -98,8 +98,8 @@ module _ (place : Place) (m : Machine) where
       → (e ≡ halt.Fault code.FuelSpent place) × (m.state.fuel ≡ 0) → Descends place m r m'
   descends_spent m' (Ok u) e i h = absurd i
   descends_spent m' (Err x) e i h = subst (λ y. Descends place m (Err y) m') (sym (i ∙ h.0)) (λ last part here.
-      ap (λ n. evaluation (functions_of m) (room m.frames) part (rest_of (functions_of m) last m.frames) (state_with m.state.heap n m.state.base)) h.1
-      ∙ begun_spent (functions_of m) (room m.frames) part (rest_of (functions_of m) last m.frames) m.state.heap m.state.base
+      ap (λ n. evaluation (functions_of m) (room m.frames) part (rest_of (functions_of m) last m.frames) (state_with m.state.heap n (beside_of m.state))) h.1
+      ∙ begun_spent (functions_of m) (room m.frames) part (rest_of (functions_of m) last m.frames) m.state.heap (beside_of m.state)
       ∙ ap (λ p. Done (Faults (plain_fault code.FuelSpent p))) here)
 
   -- a unit is taken
@@ -108,7 +108,7 @@ module _ (place : Place) (m : Machine) where
         → left last m (evaluation (functions_of m) (room m.frames) part) ≡ Done (Faults (plain_fault code.TooDeep place))
     descends_full none last part here =
         ap (λ (p : Does Value). left last m p) (begun_none (functions_of m) (room m.frames) part none)
-        ∙ charge_some (part_place part) (fault code.TooDeep (part_place part)) (rest_of (functions_of m) last m.frames) m.state.heap m.state.fuel less m.state.base taken
+        ∙ charge_some (part_place part) (fault code.TooDeep (part_place part)) (rest_of (functions_of m) last m.frames) m.state.heap m.state.fuel less (beside_of m.state) taken
         ∙ ap (λ p. Done (Faults (plain_fault code.TooDeep p))) here
 
     pub descends_in : 0 < room m.frames → (last : AfterValue) (part : Part)
@@ -116,4 +116,4 @@ module _ (place : Place) (m : Machine) where
         ≡ left last (record m { state = record m.state { fuel = less } }) (node (functions_of m) (inner m) part)
     descends_in some last part =
         ap (λ (p : Does Value). left last m p) (begun_some (functions_of m) (room m.frames) part some)
-        ∙ charge_some (part_place part) (node (functions_of m) (inner m) part) (rest_of (functions_of m) last m.frames) m.state.heap m.state.fuel less m.state.base taken
+        ∙ charge_some (part_place part) (node (functions_of m) (inner m) part) (rest_of (functions_of m) last m.frames) m.state.heap m.state.fuel less (beside_of m.state) taken

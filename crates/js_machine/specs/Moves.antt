@@ -12,6 +12,7 @@ use Rattle.run_trees.specs.RunTree.{RunTree, Done}
 use Rattle.run_trees.specs.Runs.{ends}
 use Rattle.js_evaluation.specs.State.{RunState, RunEnd, Faults, Stop, Does}
 use Rattle.js_evaluation.specs.Objects.{Context}
+use Rattle.js_evaluation.specs.PacNatives.{pac_work}
 use Rattle.js_evaluation.specs.Evaluation as def
 use Rattle.js_evaluation.specs.Evaluation.{part_place, node, evaluation}
 use Rattle.js_frames.specs.declared.frame.Frame.{Frame}
@@ -26,13 +27,16 @@ use Rattle.js_machine.specs.declared.now.Now.{Now}
 use Rattle.js_machine.specs.declared.now.Now.TheVariants as now
 use Rattle.js_machine.specs.declared.now.Part.{Part}
 use Rattle.js_machine.specs.declared.now.Part.TheVariants as part
-use Rattle.heap_steps.specs.Works.{state_with, plain_fault, left_out}
+use Rattle.heap_steps.specs.Works.{Beside, state_with, plain_fault, left_out}
 
 abbrev pub functions_of : Machine → List FunctionTree
 functions_of m = map function_of m.functions.now
 
+abbrev pub beside_of : State → Beside
+beside_of s = record { base = s.base; now = s.now; settings = s.settings }
+
 abbrev pub run_state : State → RunState
-run_state s = state_with s.heap s.fuel s.base
+run_state s = state_with s.heap s.fuel (beside_of s)
 
 -- evaluation of the parts of the node that the machine is in
 abbrev pub inner : Machine → Within
@@ -61,6 +65,7 @@ part_of cx (part.Load body) = def.load_part def.outer_scope (statements_of body.
 abbrev pub begun : Within → Context → Now → Does Value
 begun go cx (now.Begin p) = go (part_of cx p)
 begun go cx (now.Back result) = ends result
+begun go cx (now.Host f vs place) = pac_work f vs place
 
 -- what is to be done, and then what the open parts make of it
 abbrev pub present : AfterValue → Machine → Now → RunTree RunEnd
@@ -76,10 +81,11 @@ Goes last tree (Err (halt.Fault code place)) m = tree ≡ Done (Faults (plain_fa
 Goes last tree (Err (halt.LeftOut name place)) m = tree ≡ Done (Faults (left_out name place))
 Goes last tree (Err halt.Memory) m = Unit {0}
 
--- an end takes one step more than a visit
+-- an end takes one step more than a visit, and a call of the host one more than its end
 abbrev pub waits : Now → ℕ
 waits (now.Begin p) = 0
 waits (now.Back result) = 1
+waits (now.Host f vs place) = 2
 
 -- each visit takes fuel, and each end closes a part
 abbrev pub weight : Machine → ℕ

@@ -20,15 +20,20 @@ use js_evaluation::FaultCode;
 use js_frames::{Context, Frame, Frames, Open};
 use js_tree::{Declared, Expression, Function, Place, Statement};
 use object_heap::Heap;
+use pac_calendar::Moments;
+use pac_functions::PacSettings;
 use std::alloc::Global;
 use utf16_text::List;
 
 /// What a run has of its own: its heap, the fuel that is left, and the base of the reference that was evaluated last.
+/// And what its script is told of its surroundings.
 #[derive(Drop)]
 pub struct State {
     pub heap: Heap,
     pub fuel: u64,
     pub base: Value,
+    pub now: Moments,
+    pub settings: PacSettings,
 }
 
 /// A run: the functions of its script, where the code runs that is being done, the parts that are open, and the state.

@@ -1,12 +1,14 @@
 // The table of the built-in functions that code runs.
-ghost use Rattle.std.specs.Prelude.{◌≡◌};
+ghost use Rattle.std.specs.Prelude.{◌≡◌, slice_get};
 ghost use Rattle.js_evaluation.specs.Natives as spec;
+ghost use Rattle.js_evaluation.specs.PacNatives as pac;
 
 use heap_values::BuiltIn;
 use js_evaluation::Native;
+use pac_functions::PacFunction;
 
 /// The natives, in the order of their numbers, which the table of built-in objects has.
-const NATIVES: [Native; 13] = [
+const NATIVES: [Native; 26] = [
     Native::FunctionPrototype,
     Native::Object,
     Native::Array,
@@ -20,6 +22,19 @@ const NATIVES: [Native; 13] = [
     Native::ErrorToString,
     Native::ObjectToString,
     Native::ObjectValueOf,
+    Native::Pac(PacFunction::IsPlainHostName),
+    Native::Pac(PacFunction::DnsDomainIs),
+    Native::Pac(PacFunction::LocalHostOrDomainIs),
+    Native::Pac(PacFunction::DnsDomainLevels),
+    Native::Pac(PacFunction::DnsResolve),
+    Native::Pac(PacFunction::IsResolvable),
+    Native::Pac(PacFunction::IsInNet),
+    Native::Pac(PacFunction::MyIpAddress),
+    Native::Pac(PacFunction::ShExpMatch),
+    Native::Pac(PacFunction::Alert),
+    Native::Pac(PacFunction::WeekdayRange),
+    Native::Pac(PacFunction::DateRange),
+    Native::Pac(PacFunction::TimeRange),
 ];
 
 /// All natives, in the order of their numbers from 0.
@@ -33,7 +48,14 @@ pub fn natives() -> &'static [Native]
 pub fn native_of(number: u16) -> Option<Native>
     ensures { result ≡ spec.native_of number }
 {
-    natives().get(number as usize).copied()
+    native_in(natives(), number as usize)
+}
+
+/// The native in a place of a list, counted from 0.
+fn native_in(natives: &[Native], place: usize) -> Option<Native>
+    ensures { result ≡ slice_get natives.now place }
+{
+    natives.get(place).copied()
 }
 
 /// The name by which a fault speaks of a native, one unit a byte: that of a method stands behind the name of its
@@ -55,6 +77,50 @@ pub fn name_of(native: Native) -> &'static [u8]
         Native::ErrorToString => b"Error.prototype.toString",
         Native::ObjectToString => b"Object.prototype.toString",
         Native::ObjectValueOf => b"Object.prototype.valueOf",
+        Native::Pac(function) => pac_name(function),
+    }
+}
+
+/// The name of a function of the proxy format.
+fn pac_name(function: PacFunction) -> &'static [u8]
+    ensures { result.now ≡ pac.pac_name function }
+{
+    match function {
+        PacFunction::IsPlainHostName => b"isPlainHostName",
+        PacFunction::DnsDomainIs => b"dnsDomainIs",
+        PacFunction::LocalHostOrDomainIs => b"localHostOrDomainIs",
+        PacFunction::DnsDomainLevels => b"dnsDomainLevels",
+        PacFunction::DnsResolve => b"dnsResolve",
+        PacFunction::IsResolvable => b"isResolvable",
+        PacFunction::IsInNet => b"isInNet",
+        PacFunction::MyIpAddress => b"myIpAddress",
+        PacFunction::ShExpMatch => b"shExpMatch",
+        PacFunction::Alert => b"alert",
+        PacFunction::WeekdayRange => b"weekdayRange",
+        PacFunction::DateRange => b"dateRange",
+        PacFunction::TimeRange => b"timeRange",
+    }
+}
+
+/// How many arguments of a function of the proxy format become texts. None for the ranges, whose arguments stay as they
+/// are.
+pub fn named(function: PacFunction) -> Option<usize>
+    ensures { result ≡ pac.named function }
+{
+    match function {
+        PacFunction::IsPlainHostName => Some(1),
+        PacFunction::DnsDomainIs => Some(2),
+        PacFunction::LocalHostOrDomainIs => Some(2),
+        PacFunction::DnsDomainLevels => Some(1),
+        PacFunction::DnsResolve => Some(1),
+        PacFunction::IsResolvable => Some(1),
+        PacFunction::IsInNet => Some(3),
+        PacFunction::MyIpAddress => Some(0),
+        PacFunction::ShExpMatch => Some(2),
+        PacFunction::Alert => Some(1),
+        PacFunction::WeekdayRange => None,
+        PacFunction::DateRange => None,
+        PacFunction::TimeRange => None,
     }
 }
 

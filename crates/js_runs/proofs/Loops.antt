@@ -5,7 +5,8 @@ use Rattle.js_tree.specs.declared.place.Place.{Place}
 use Rattle.heap_values.specs.declared.ids.ObjectId.{ObjectId}
 use Rattle.heap_values.specs.declared.value.Value.{Value}
 use Rattle.run_trees.specs.declared.abrupt.Abrupt.TheVariants as ending
-use Rattle.run_trees.specs.RunTree.{RunTree, Done}
+use Rattle.js_host.specs.Seen.{Seen}
+use Rattle.run_trees.specs.RunTree.{RunTree, Done, Walked, walk}
 use Rattle.js_evaluation.specs.declared.thrown.Thrown.{Thrown}
 use Rattle.js_evaluation.specs.State.{RunEnd, Comes, Stop}
 use Rattle.js_evaluation.specs.Evaluation.{part_place, node, outer_scope, outside}
@@ -33,7 +34,10 @@ use Rattle.js_tree.specs.declared.expression.FunctionPart.TheVariants as functio
 use Rattle.js_tree.specs.declared.statement.StatementNode.{StatementNode}
 use Rattle.js_tree.specs.declared.statement.StatementNode.TheVariants as statement_node
 use Rattle.std.specs.Borrow.{Bor}
-use Rattle.js_runs.specs.Closes.{Begins, Closed, Closes, handed_on}
+use Rattle.js_runs.specs.declared.running.Cut.{Cut}
+use Rattle.js_runs.specs.declared.running.Cut.TheVariants as cut
+use Rattle.js_runs.specs.Asking.{AreKept, GoesOver}
+use Rattle.js_runs.specs.Closes.{Begins, Closed, Closes, KeptAtEnd, handed_on}
 
 module _ (part : Part) (place : Place) (m : Machine) where
   -- where the part is charged and has room, its rule goes on
@@ -106,13 +110,23 @@ module _ (place : Place) (m begun : Machine) (r : Result Now Halt) (m' : Machine
 
 -- ---- steps of the loop
 
+-- what a step leaves of the run, it leaves of the run over a host that it doesn't ask
+pub goes_over : (last : AfterValue) (tree : RunTree RunEnd) (r : Result Now Halt) (m : Machine) (seen : Seen) → Goes last tree r m → GoesOver last (walk tree seen) r m seen
+unfolding walk
+goes_over last tree (Ok what) m seen g = ap (λ t. walk t seen) g
+goes_over last tree (Err (halt.Throw t)) m seen g = ap (λ t. walk t seen) g
+goes_over last tree (Err (halt.Fault c p)) m seen g = ap (λ t. walk t seen) g
+goes_over last tree (Err (halt.LeftOut n p)) m seen g = ap (λ t. walk t seen) g
+goes_over last tree (Err halt.Memory) m seen g = tt
+
 -- what a step makes of the run, it makes where what is thrown is handed on
-pub goes_on : (last : AfterValue) (tree : RunTree RunEnd) (r : Result Now Halt) (what : Now) (m : Machine) → handed_on r ≡ Ok what → Goes last tree r m → tree ≡ present last m what
-goes_on last tree (Ok w) what m e g = let i : w ≡ what = cc in g ∙ ap (present last m) i
-goes_on last tree (Err (halt.Throw t)) what m e g = let i : now.Back (Err (ending.Thrown t)) ≡ what = cc in g ∙ ap (present last m) i
-goes_on last tree (Err (halt.Fault c p)) what m e g = cc
-goes_on last tree (Err (halt.LeftOut n p)) what m e g = cc
-goes_on last tree (Err halt.Memory) what m e g = cc
+pub goes_on : (last : AfterValue) (walked : Walked RunEnd) (r : Result Now Halt) (what : Now) (m : Machine) (seen : Seen)
+    → handed_on r ≡ Ok what → GoesOver last walked r m seen → walked ≡ walk (present last m what) seen
+goes_on last walked (Ok w) what m seen e g = let i : w ≡ what = cc in g ∙ ap (λ x. walk (present last m x) seen) i
+goes_on last walked (Err (halt.Throw t)) what m seen e g = let i : now.Back (Err (ending.Thrown t)) ≡ what = cc in g ∙ ap (λ x. walk (present last m x) seen) i
+goes_on last walked (Err (halt.Fault c p)) what m seen e g = cc
+goes_on last walked (Err (halt.LeftOut n p)) what m seen e g = cc
+goes_on last walked (Err halt.Memory) what m seen e g = cc
 
 pub lighter : (bound : ℕ) (r : Result Now Halt) (what : Now) (m : Machine) → handed_on r ≡ Ok what → Light bound r m → weight m + waits what < bound
 lighter bound (Ok w) what m e l = let i : w ≡ what = cc in subst (λ (x : Now). weight m + waits x < bound) i l
@@ -122,27 +136,63 @@ lighter bound (Err (halt.LeftOut n p)) what m e l = cc
 lighter bound (Err halt.Memory) what m e l = cc
 
 -- where a step stops, so does the run
-closed_by : (last : AfterValue) (tree : RunTree RunEnd) (r : Result Now Halt) (e : Halt) (m : Machine) → handed_on r ≡ Err e → Goes last tree r m → Closed last tree (Err e) m
-closed_by last tree (Ok w) e m h g = cc
-closed_by last tree (Err (halt.Throw t)) e m h g = cc
-closed_by last tree (Err (halt.Fault c p)) (halt.Fault c' p') m h g = g ∙ cc
-closed_by last tree (Err (halt.Fault c p)) (halt.Throw t) m h g = cc
-closed_by last tree (Err (halt.Fault c p)) (halt.LeftOut n q) m h g = cc
-closed_by last tree (Err (halt.Fault c p)) halt.Memory m h g = tt
-closed_by last tree (Err (halt.LeftOut n p)) (halt.LeftOut n' p') m h g = g ∙ cc
-closed_by last tree (Err (halt.LeftOut n p)) (halt.Throw t) m h g = cc
-closed_by last tree (Err (halt.LeftOut n p)) (halt.Fault c q) m h g = cc
-closed_by last tree (Err (halt.LeftOut n p)) halt.Memory m h g = tt
-closed_by last tree (Err halt.Memory) (halt.Throw t) m h g = cc
-closed_by last tree (Err halt.Memory) (halt.Fault c q) m h g = cc
-closed_by last tree (Err halt.Memory) (halt.LeftOut n q) m h g = cc
-closed_by last tree (Err halt.Memory) halt.Memory m h g = tt
+closed_by : (last : AfterValue) (walked : Walked RunEnd) (r : Result Now Halt) (e : Halt) (m : Machine) (seen : Seen)
+    → handed_on r ≡ Err e → GoesOver last walked r m seen → Closed last walked (Err (cut.Halt e)) m seen
+closed_by last walked (Ok w) e m seen h g = cc
+closed_by last walked (Err (halt.Throw t)) e m seen h g = cc
+closed_by last walked (Err (halt.Fault c p)) (halt.Fault c' p') m seen h g = g ∙ cc
+closed_by last walked (Err (halt.Fault c p)) (halt.Throw t) m seen h g = cc
+closed_by last walked (Err (halt.Fault c p)) (halt.LeftOut n q) m seen h g = cc
+closed_by last walked (Err (halt.Fault c p)) halt.Memory m seen h g = tt
+closed_by last walked (Err (halt.LeftOut n p)) (halt.LeftOut n' p') m seen h g = g ∙ cc
+closed_by last walked (Err (halt.LeftOut n p)) (halt.Throw t) m seen h g = cc
+closed_by last walked (Err (halt.LeftOut n p)) (halt.Fault c q) m seen h g = cc
+closed_by last walked (Err (halt.LeftOut n p)) halt.Memory m seen h g = tt
+closed_by last walked (Err halt.Memory) (halt.Throw t) m seen h g = cc
+closed_by last walked (Err halt.Memory) (halt.Fault c q) m seen h g = cc
+closed_by last walked (Err halt.Memory) (halt.LeftOut n q) m seen h g = cc
+closed_by last walked (Err halt.Memory) halt.Memory m seen h g = tt
 
-pub closes_stopped : (m : Machine) (first : Now) (out : Result (Result Value Stop) Halt) (r : Result Now Halt) (e : Halt) (m' : Machine)
-    → IsErrAnd out (λ x. x ≡ e) → handed_on r ≡ Err e → ((last : AfterValue) → Goes last (present last m first) r m') → Closes m first out m'
-closes_stopped m first (Ok end) r e m' i h g = absurd i
-closes_stopped m first (Err x) r e m' i h g =
-    subst (λ y. Closes m first (Err y) m') (sym i) (record { closes = λ last. closed_by last (present last m first) r e m' h (g last) })
+pub closes_stopped : (m : Machine) (first : Now) (before : Seen) (out : Result (Result Value Stop) Cut) (r : Result Now Halt) (e : Halt) (m' : Machine) (after : Seen)
+    → IsErrAnd out (λ x. x ≡ cut.Halt e) → handed_on r ≡ Err e → ((last : AfterValue) → GoesOver last (walk (present last m first) before) r m' after)
+    → Closes m first before out m' after
+closes_stopped m first before (Ok end) r e m' after i h g = absurd i
+closes_stopped m first before (Err x) r e m' after i h g =
+    subst (λ y. Closes m first before (Err y) m' after) (sym i) (record { closes = λ last. closed_by last (walk (present last m first) before) r e m' after h (g last) })
+
+-- ---- alerts
+
+-- the alerts are kept at each end
+pub kept_at_end : (r : Result (Result Value Stop) Cut) (alerts kept : List (List ℕ)) → alerts ≡ kept → KeptAtEnd r alerts kept
+kept_at_end (Ok end) alerts kept e = e
+kept_at_end (Err (cut.Halt (halt.Throw t))) alerts kept e = e
+kept_at_end (Err (cut.Halt (halt.Fault c p))) alerts kept e = e
+kept_at_end (Err (cut.Halt (halt.LeftOut n p))) alerts kept e = e
+kept_at_end (Err (cut.Halt halt.Memory)) alerts kept e = tt
+kept_at_end (Err (cut.Missing name)) alerts kept e = tt
+
+-- and behind a call that goes on
+pub kept_on : (r : Result Now Halt) (what : Now) (alerts kept : List (List ℕ)) → handed_on r ≡ Ok what → AreKept r alerts kept → alerts ≡ kept
+kept_on (Ok w) what alerts kept h e = e
+kept_on (Err (halt.Throw t)) what alerts kept h e = e
+kept_on (Err (halt.Fault c p)) what alerts kept h e = cc
+kept_on (Err (halt.LeftOut n p)) what alerts kept h e = cc
+kept_on (Err halt.Memory) what alerts kept h e = cc
+
+kept_by : (r : Result Now Halt) (e : Halt) (alerts kept : List (List ℕ)) → handed_on r ≡ Err e → AreKept r alerts kept → KeptAtEnd (Err (cut.Halt e)) alerts kept
+kept_by (Ok w) e alerts kept h a = cc
+kept_by (Err (halt.Throw t)) e alerts kept h a = cc
+kept_by (Err (halt.Fault c p)) e alerts kept h a = kept_at_end (Err (cut.Halt e)) alerts kept a
+kept_by (Err (halt.LeftOut n p)) e alerts kept h a = kept_at_end (Err (cut.Halt e)) alerts kept a
+kept_by (Err halt.Memory) halt.Memory alerts kept h a = tt
+kept_by (Err halt.Memory) (halt.Throw t) alerts kept h a = cc
+kept_by (Err halt.Memory) (halt.Fault c p) alerts kept h a = cc
+kept_by (Err halt.Memory) (halt.LeftOut n p) alerts kept h a = cc
+
+pub kept_stopped : (out : Result (Result Value Stop) Cut) (r : Result Now Halt) (e : Halt) (alerts kept : List (List ℕ))
+    → IsErrAnd out (λ x. x ≡ cut.Halt e) → handed_on r ≡ Err e → AreKept r alerts kept → KeptAtEnd out alerts kept
+kept_stopped (Ok end) r e alerts kept i h a = absurd i
+kept_stopped (Err x) r e alerts kept i h a = subst (λ y. KeptAtEnd (Err y) alerts kept) (sym i) (kept_by r e alerts kept h a)
 
 -- all but a throw ends the run
 pub kept : (h : Halt) → ((t : Thrown) → h ≡ halt.Throw t → ⊥) → Err h ≡ handed_on (Err h)

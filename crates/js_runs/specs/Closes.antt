@@ -1,8 +1,9 @@
 -- What the loop of a run ensures.
-use Rattle.std.specs.Prelude.{◌≡◌, Result, Ok, Err}
+use Rattle.std.specs.Prelude.{◌≡◌, ℕ, List, Result, Ok, Err}
 use Rattle.heap_values.specs.declared.value.Value.{Value}
 use Rattle.run_trees.specs.declared.abrupt.Abrupt.TheVariants as ending
-use Rattle.run_trees.specs.RunTree.{RunTree, Done}
+use Rattle.js_host.specs.Seen.{Seen}
+use Rattle.run_trees.specs.RunTree.{Walked, Ended, Stopped, walk}
 use Rattle.js_evaluation.specs.State.{RunEnd, Faults, Stop}
 use Rattle.js_frames.specs.Rules.{AfterValue}
 use Rattle.heap_steps.specs.declared.halt.Halt.{Halt}
@@ -13,6 +14,8 @@ use Rattle.js_machine.specs.declared.now.Now.{Now}
 use Rattle.js_machine.specs.declared.now.Now.TheVariants as now
 use Rattle.js_machine.specs.declared.now.Part.{Part}
 use Rattle.js_machine.specs.Moves.{Goes, Light, present, weight, run_state}
+use Rattle.js_runs.specs.declared.running.Cut.{Cut}
+use Rattle.js_runs.specs.declared.running.Cut.TheVariants as cut
 
 -- what is thrown goes back to the part around
 abbrev pub handed_on : Result Now Halt → Result Now Halt
@@ -27,13 +30,22 @@ pub record Begins (part : Part) (m : Machine) (r : Result Now Halt) (m' : Machin
   pub goes : (last : AfterValue) → Goes last (present last m (now.Begin part)) r m'
   pub light : Light (weight m) r m'
 
--- The run comes to this end and state, whatever comes after it, or is at its end by a fault.
-abbrev pub Closed : AfterValue → RunTree RunEnd → Result (Result Value Stop) Halt → Machine → Type 0
-Closed last tree (Ok end) m = tree ≡ last end (run_state m.state)
-Closed last tree (Err (halt.Throw thrown)) m = ⊥
-Closed last tree (Err (halt.Fault code place)) m = tree ≡ Done (Faults (plain_fault code place))
-Closed last tree (Err (halt.LeftOut name place)) m = tree ≡ Done (Faults (left_out name place))
-Closed last tree (Err halt.Memory) m = Unit {0}
+-- The run over the host comes to this end and state, whatever comes after it, or is at its end by a fault, or stops at
+-- a name that the host lacks.
+abbrev pub Closed : AfterValue → Walked RunEnd → Result (Result Value Stop) Cut → Machine → Seen → Type 0
+Closed last walked (Ok end) m seen = walked ≡ walk (last end (run_state m.state)) seen
+Closed last walked (Err (cut.Halt (halt.Throw thrown))) m seen = ⊥
+Closed last walked (Err (cut.Halt (halt.Fault code place))) m seen = walked ≡ Ended (Faults (plain_fault code place)) seen
+Closed last walked (Err (cut.Halt (halt.LeftOut name place))) m seen = walked ≡ Ended (Faults (left_out name place)) seen
+Closed last walked (Err (cut.Halt halt.Memory)) m seen = Unit {0}
+Closed last walked (Err (cut.Missing name)) m seen = walked ≡ Stopped name seen
 
-pub record Closes (m : Machine) (first : Now) (r : Result (Result Value Stop) Halt) (m' : Machine) : Type 0 where
-  pub closes : (last : AfterValue) → Closed last (present last m first) r m'
+pub record Closes (m : Machine) (first : Now) (before : Seen) (r : Result (Result Value Stop) Cut) (m' : Machine) (after : Seen) : Type 0 where
+  pub closes : (last : AfterValue) → Closed last (walk (present last m first) before) r m' after
+
+-- the alerts are those that the host has kept, unless memory was refused or a name is missing
+abbrev pub KeptAtEnd : Result (Result Value Stop) Cut → List (List ℕ) → List (List ℕ) → Type 0
+KeptAtEnd (Ok end) alerts kept = alerts ≡ kept
+KeptAtEnd (Err (cut.Halt halt.Memory)) alerts kept = Unit {0}
+KeptAtEnd (Err (cut.Halt h)) alerts kept = alerts ≡ kept
+KeptAtEnd (Err (cut.Missing name)) alerts kept = Unit {0}

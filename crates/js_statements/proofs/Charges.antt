@@ -11,7 +11,7 @@ use Rattle.heap_steps.specs.declared.halt.Halt.{Halt}
 use Rattle.heap_steps.specs.declared.halt.Halt.TheVariants as halt
 use Rattle.heap_steps.specs.Works.{Works}
 use Rattle.js_machine.specs.declared.machine.State.{State}
-use Rattle.js_machine.specs.Moves.{run_state}
+use Rattle.js_machine.specs.Moves.{beside_of, run_state}
 use Rattle.js_machine.proofs.Steps.{charge_some, charge_none}
 use Rattle.js_statements.specs.Acts.{Acts}
 
@@ -39,7 +39,7 @@ module _ {A : Type 0} (place : Place) (next : Does A) (s s' : State) where
       → Acts (charge place >> next) s r s'
   spent (Ok v) e i h = absurd i
   spent (Err x) e i h = subst (λ y. Acts (charge place >> next) s (Err y) s') (sym (i ∙ h.0)) (record {
-    is = λ after. charge_none place next after s.heap s.fuel s.base h.1;
+    is = λ after. charge_none place next after s.heap s.fuel (beside_of s) h.1;
     less = tt;
   })
 
@@ -48,20 +48,20 @@ module _ {A : Type 0} (place : Place) (name : List ℕ) (next : Does A) (s : Sta
   pub name_charged : less + 1 ≡ s.fuel → Works (spend name place) s.heap (Ok tt) h → (after : After RunState Stop RunEnd A)
       → (charge place >> spend name place >> next) after (run_state s) ≡ next after (run_state (state_of s h less))
   name_charged e w after =
-      charge_some place (spend name place) (onward (λ _. next) after) s.heap s.fuel less s.base e ∙ w.is (onward (λ _. next) after) less s.base
+      charge_some place (spend name place) (onward (λ _. next) after) s.heap s.fuel less (beside_of s) e ∙ w.is (onward (λ _. next) after) less (beside_of s)
 
   name_stops : (e : Halt) → less + 1 ≡ s.fuel → Works (spend name place) s.heap (Err e) h
       → Acts (charge place >> spend name place >> next) s (Err e) (state_of s h less)
   name_stops (halt.Throw t) f w = record {
-    is = λ after. charge_some place (spend name place) (onward (λ _. next) after) s.heap s.fuel less s.base f ∙ w.is (onward (λ _. next) after) less s.base;
+    is = λ after. charge_some place (spend name place) (onward (λ _. next) after) s.heap s.fuel less (beside_of s) f ∙ w.is (onward (λ _. next) after) less (beside_of s);
     less = omega (arith, f);
   }
   name_stops (halt.Fault c p) f w = record {
-    is = λ after. charge_some place (spend name place) (onward (λ _. next) after) s.heap s.fuel less s.base f ∙ w.is (onward (λ _. next) after) less s.base;
+    is = λ after. charge_some place (spend name place) (onward (λ _. next) after) s.heap s.fuel less (beside_of s) f ∙ w.is (onward (λ _. next) after) less (beside_of s);
     less = tt;
   }
   name_stops (halt.LeftOut n p) f w = record {
-    is = λ after. charge_some place (spend name place) (onward (λ _. next) after) s.heap s.fuel less s.base f ∙ w.is (onward (λ _. next) after) less s.base;
+    is = λ after. charge_some place (spend name place) (onward (λ _. next) after) s.heap s.fuel less (beside_of s) f ∙ w.is (onward (λ _. next) after) less (beside_of s);
     less = tt;
   }
   name_stops halt.Memory f w = record { is = tt; less = tt }

@@ -18,20 +18,20 @@ use Rattle.js_frames.specs.Rules as rule
 use Rattle.js_frames.specs.Rules.{Within, AfterValue}
 use Rattle.js_frames.specs.RestOf.{names_from, rest_of}
 use Rattle.heap_steps.specs.declared.halt.Halt.{Halt}
-use Rattle.heap_steps.specs.Works.{state_with}
+use Rattle.heap_steps.specs.Works.{state_with, Beside}
 use Rattle.js_machine.specs.declared.machine.Machine.{Machine}
 use Rattle.js_machine.specs.declared.machine.State.{State}
 use Rattle.js_machine.specs.declared.now.Now.{Now}
 use Rattle.js_machine.specs.declared.now.Now.TheVariants as now
-use Rattle.js_machine.specs.Moves.{Moves, at, evaluated, executed, functions_of, inner, left, resumed}
+use Rattle.js_machine.specs.Moves.{Moves, at, evaluated, executed, functions_of, inner, left, resumed, beside_of}
 use Rattle.js_statements.specs.Acts.{Acts}
 use Rattle.js_statements.specs.Loops.{listed_in, is_listed_in, with_name}
 use Rattle.js_statements.proofs.Parts.{with_state, moves_as, moves_by, acts_then, acts_stops}
 
-module _ (functions : List FunctionTree) (go : Within) (cx : Context) (h : HeapView) (fuel : ℕ) (base : Value) where
+module _ (functions : List FunctionTree) (go : Within) (cx : Context) (h : HeapView) (fuel : ℕ) (beside : Beside) where
   -- the names that are listed are those of the heap
   pub lists : (object : Value) (after : After RunState Stop RunEnd (List (List ℕ)))
-      → rule.listed_names functions go cx object after (state_with h fuel base) ≡ after (Ok (listed_in h object)) (state_with h fuel base)
+      → rule.listed_names functions go cx object after (state_with h fuel beside) ≡ after (Ok (listed_in h object)) (state_with h fuel beside)
   lists value.Undefined after = refl
   lists value.Null after = refl
   lists (value.Bool b) after = refl
@@ -42,32 +42,32 @@ module _ (functions : List FunctionTree) (go : Within) (cx : Context) (h : HeapV
   module _ (l : ForInLoop) (name : List ℕ) (names : List (List ℕ)) (after : AfterValue) where
     -- a name that is still there has its turn
     pub kept : (object : Value) → is_listed_in h object name ≡ true
-        → names_from functions go cx l object (name ∷ names) after (state_with h fuel base) ≡ with_name functions go cx name object names l after (state_with h fuel base)
+        → names_from functions go cx l object (name ∷ names) after (state_with h fuel beside) ≡ with_name functions go cx name object names l after (state_with h fuel beside)
     kept value.Undefined e = refl
     kept value.Null e = refl
     kept (value.Bool b) e = refl
     kept (value.Number n) e = refl
     kept (value.Text t) e = refl
     kept (value.Object id) e =
-        ap (λ (b : Bool). (if b then with_name functions go cx name (value.Object id) names l else names_from functions go cx l (value.Object id) names) after (state_with h fuel base)) e
+        ap (λ (b : Bool). (if b then with_name functions go cx name (value.Object id) names l else names_from functions go cx l (value.Object id) names) after (state_with h fuel beside)) e
 
     -- one that is not is passed
     pub gone : (object : Value) → is_listed_in h object name ≡ false
-        → names_from functions go cx l object (name ∷ names) after (state_with h fuel base) ≡ names_from functions go cx l object names after (state_with h fuel base)
+        → names_from functions go cx l object (name ∷ names) after (state_with h fuel beside) ≡ names_from functions go cx l object names after (state_with h fuel beside)
     gone value.Undefined e = cc
     gone value.Null e = cc
     gone (value.Bool b) e = cc
     gone (value.Number n) e = cc
     gone (value.Text t) e = cc
     gone (value.Object id) e =
-        ap (λ (b : Bool). (if b then with_name functions go cx name (value.Object id) names l else names_from functions go cx l (value.Object id) names) after (state_with h fuel base)) e
+        ap (λ (b : Bool). (if b then with_name functions go cx name (value.Object id) names l else names_from functions go cx l (value.Object id) names) after (state_with h fuel beside)) e
 
 -- the names are listed and charged, and then the first of them has its turn
 module _ (m : Machine) (l : ForInLoop) (object : Value) (names : List (List ℕ)) (s : State) (are : names ≡ listed_in m.state.heap object) where
   lists_those : (last : AfterValue)
       → left last m (at m resumed (frame.Loop (of_loop.ForInObject l)) (Ok object)) ≡ left last m (at m rule.charged_names l.place names >> at m names_from l object names)
   lists_those last =
-      lists (functions_of m) (inner m) (context_of m.context) m.state.heap m.state.fuel m.state.base object
+      lists (functions_of m) (inner m) (context_of m.context) m.state.heap m.state.fuel (beside_of m.state) object
       (onward (λ ns. at m rule.charged_names l.place ns >> at m names_from l object ns) (rest_of (functions_of m) last m.frames))
       ∙ ap (λ (ns : List (List ℕ)). left last m (at m rule.charged_names l.place ns >> at m names_from l object ns)) (sym are)
 
@@ -105,10 +105,10 @@ module _ (m : Machine) (l : ForInLoop) (object : Value) (all left_now : List (Li
         → Moves (at m with_name name object names l) m r m' → Moves (at m names_from l object all) m r m'
     turn_kept {r} e k = moves_as r (λ last.
         same last ∙ ap (λ (ns : List (List ℕ)). left last m (at m names_from l object ns)) next
-        ∙ kept (functions_of m) (inner m) (context_of m.context) m.state.heap m.state.fuel m.state.base l name names (rest_of (functions_of m) last m.frames) object e) k
+        ∙ kept (functions_of m) (inner m) (context_of m.context) m.state.heap m.state.fuel (beside_of m.state) l name names (rest_of (functions_of m) last m.frames) object e) k
 
     pub turn_gone : is_listed_in m.state.heap object name ≡ false
         → (last : AfterValue) → left last m (at m names_from l object all) ≡ left last m (at m names_from l object names)
     turn_gone e last =
         same last ∙ ap (λ (ns : List (List ℕ)). left last m (at m names_from l object ns)) next
-        ∙ gone (functions_of m) (inner m) (context_of m.context) m.state.heap m.state.fuel m.state.base l name names (rest_of (functions_of m) last m.frames) object e
+        ∙ gone (functions_of m) (inner m) (context_of m.context) m.state.heap m.state.fuel (beside_of m.state) l name names (rest_of (functions_of m) last m.frames) object e

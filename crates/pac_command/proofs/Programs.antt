@@ -1,8 +1,14 @@
 -- How the programs of the commands are followed.
-use Rattle.std.proofs.Common.{inl, inr, Option, None, refl}
+use Rattle.std.proofs.Common.{◌≡◌, ℕ, ℤ, inl, inr, Option, Some, None, refl, subst}
+use Rattle.pac_ports.specs.Clock.{ClockTold}
 use Rattle.pac_plan.specs.Plan.{Outside, Output, say, at_once, timed}
 use Rattle.pac_plan.specs.Follows.{IsUnlessMemory}
-use Rattle.pac_command.specs.Plans.{CommandProgram, FollowsProgram}
+use Rattle.pac_plan.proofs.GivesUp as plans
+use Rattle.pac_ask.specs.Talks.{talks}
+use Rattle.pac_words.specs.Commands.{Running}
+use Rattle.pac_command.specs.declared.given.Given.{Given}
+use Rattle.pac_command.specs.Plans.{CommandPlan, CommandProgram, Follows, FollowsProgram}
+use Rattle.pac_command.specs.Begun.{IsMoment, begun, begun_at, given_at}
 use Rattle.pac_command.specs.Commands.{usage}
 
 -- memory may run out before anything is done
@@ -12,3 +18,28 @@ memory_first (timed next) o = inr (refl, refl)
 
 pub says_usage : (o : Outside) (made : Option Output) → IsUnlessMemory usage made → FollowsProgram (at_once (say usage)) o o made
 says_usage o made h = inl (refl, h)
+
+abbrev with_clock : Outside → Option ClockTold → Outside
+with_clock o clock = record o { clock = clock }
+
+-- the plan at the moment was followed from behind the clock on
+begins_at : (now : Option ℕ) (next : ℤ → CommandPlan) (moment : ℤ) (clock : Option ClockTold) (old new : Outside) (made : Option Output)
+    → IsMoment now old.clock moment clock → Follows (next moment) (with_clock old clock) new made → FollowsProgram (begun_at now next) old new made
+begins_at (Some seconds) next moment clock old new made is follows =
+    inl (subst (λ (m : ℤ). Follows (next m) old new made) is.0 (subst (λ (c : Option ClockTold). Follows (next moment) (with_clock old c) new made) is.1 follows))
+begins_at None next moment clock old new made is follows =
+    inl (moment, subst (λ (c : Option ClockTold). Follows (next moment) (with_clock old c) new made) is follows)
+
+-- so was the plan with what the runs are given
+pub begins : (running : Running) (next : Given → CommandPlan) (moment : ℤ) (given : Given) (clock : Option ClockTold) (old new : Outside) (made : Option Output)
+    → IsMoment running.now old.clock moment clock → given ≡ given_at running moment → Follows (next given) (with_clock old clock) new made → FollowsProgram (begun running next) old new made
+begins running next moment given clock old new made is same follows =
+    begins_at running.now (λ seconds. next (given_at running seconds)) moment clock old new made is
+    (subst (λ (g : Given). Follows (next g) (with_clock old clock) new made) same follows)
+
+-- memory ran out behind the clock
+pub gives_up : (running : Running) (next : Given → CommandPlan) (moment : ℤ) (clock : Option ClockTold) (old : Outside)
+    → IsMoment running.now old.clock moment clock → FollowsProgram (begun running next) old (with_clock old clock) None
+gives_up running next moment clock old is =
+    begins_at running.now (λ seconds. next (given_at running seconds)) moment clock old (with_clock old clock) None is
+    (plans.gives_up talks (next (given_at running moment)) (with_clock old clock))

@@ -1,20 +1,19 @@
 -- What `check` does.
-use Rattle.std.specs.Prelude.{ℕ, List, Result, Ok, Err, codes}
-use Rattle.utf16_text.specs.Decode.{decoded_units}
+use Rattle.std.specs.Prelude.{ℕ, List, codes}
 use Rattle.js_tree.specs.Tree.{StatementTree}
-use Rattle.js_grammar.specs.Reading.{Refusal}
-use Rattle.js_grammar.specs.Statements.{script_of_text}
 use Rattle.js_grammar.specs.Spelling.{printed_bytes}
 use Rattle.pac_plan.specs.Plan.{Output, say, read}
 use Rattle.pac_plan.specs.declared.status.Status.TheVariants as status
 use Rattle.pac_command.specs.Plans.{CommandPlan}
-use Rattle.pac_command.specs.Scripts.{refused_script}
+use Rattle.pac_command.specs.Scripts.{script_then}
 
--- the printed script, or its first refusal
-abbrev pub checked : Result (List StatementTree) Refusal → Output
-checked (Ok body) = record { status = status.Good; text = printed_bytes body }
-checked (Err refusal) = refused_script refusal
+abbrev pub printed : List StatementTree → Output
+printed script = record { status = status.Good; text = printed_bytes script }
+
+-- with the bytes of the script's file
+abbrev pub script_plan : List ℕ → CommandPlan
+script_plan bytes = script_then bytes (λ script. say (printed script))
 
 -- reads the script and prints it
 abbrev pub check_plan : List ℕ → CommandPlan
-check_plan script = read (codes "script") script (λ bytes. say (checked (script_of_text (decoded_units bytes))))
+check_plan script = read (codes "script") script (λ bytes. script_plan bytes)

@@ -1,12 +1,16 @@
--- What a command says of a script that isn't read.
+-- How a command reads a script, and what it says of one that isn't read.
 use Rattle.std.specs.Prelude.{ℕ, List, ◌++◌, ◌∷◌, codes}
 use Rattle.std.specs.Fmt.{decimal}
+use Rattle.utf16_text.specs.Decode.{decoded_units}
+use Rattle.js_tree.specs.Tree.{StatementTree}
 use Rattle.js_tree.specs.declared.place.Place.{Place}
 use Rattle.js_tree.specs.declared.refusal.ReadKind.{ReadKind}
 use Rattle.js_tree.specs.declared.refusal.ReadKind.TheVariants as kind
 use Rattle.js_grammar.specs.Reading.{Refusal}
-use Rattle.pac_plan.specs.Plan.{Output, line}
+use Rattle.js_grammar.specs.Statements.{script_of_text}
+use Rattle.pac_plan.specs.Plan.{Output, say, line}
 use Rattle.pac_plan.specs.declared.status.Status.TheVariants as status
+use Rattle.pac_command.specs.Plans.{CommandPlan, if_read}
 
 abbrev pub refused : List ℕ → Output
 refused what = record { status = status.Refused; text = line (codes "refused " ++ what) }
@@ -25,3 +29,7 @@ place_text place = decimal place.line ++ 58 ∷ decimal place.column
 -- the place of the first refusal, a blank (32) and its name
 abbrev pub refused_script : Refusal → Output
 refused_script refusal = refused (codes "script " ++ (place_text refusal.1 ++ 32 ∷ kind_name refusal.0))
+
+-- goes on with the script in a file of these bytes, or says its first refusal
+abbrev pub script_then : List ℕ → (List StatementTree → CommandPlan) → CommandPlan
+script_then bytes next = if_read (script_of_text (decoded_units bytes)) (λ refusal. say (refused_script refusal)) next

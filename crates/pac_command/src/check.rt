@@ -1,17 +1,14 @@
 // `check`: a script as it is printed.
-ghost use Rattle.std.specs.Prelude.{◌≤◌, length, Ok};
-ghost use Rattle.utf16_text.specs.Decode.{decoded_units};
-ghost use Rattle.js_grammar.specs.Statements.{script_of_text};
+ghost use Rattle.std.specs.Prelude.{◌≤◌, length};
 ghost use Rattle.pac_plan.specs.Plan.{Outside};
 ghost use Rattle.pac_plan.specs.Follows.{IsUnlessMemory};
 ghost use Rattle.pac_command.specs.Plans.{Follows};
-ghost use Rattle.pac_command.specs.Check.{check_plan, checked};
+ghost use Rattle.pac_command.specs.Check.{check_plan, printed, script_plan};
 ghost use Rattle.pac_plan.specs.OutputView.{made};
 
 use crate::Status;
 use crate::output::{not_read, refused_script};
-use crate::script::{FILE_LIMIT, decoded};
-use js_parser::read_script;
+use crate::script::{FILE_LIMIT, script_in};
 use js_printer::print;
 use js_tree::{ReadAnswer, Script};
 use pac_plan::Output;
@@ -32,18 +29,17 @@ pub(crate) fn check<F: Files>(alloc: Global, script: &str, files: &mut F) -> Res
 
 fn check_file(alloc: Global, bytes: &[u8]) -> Result<Output, Memory>
     requires { length bytes.now ≤ 1048576 }
-    ensures { IsUnlessMemory (checked (script_of_text (decoded_units bytes.now))) (made result) }
+    ensures { (o : Outside) → Follows (script_plan bytes.now) o o (made result) }
 {
-    let source = decoded(alloc, bytes)?;
-    match read_script(alloc, &source) {
-        Ok(script) => printed(alloc, &script),
+    match script_in(alloc, bytes) {
+        Ok(script) => printed_script(alloc, &script),
         Err(ReadAnswer::Refused(kind, place)) => refused_script(alloc, kind, place),
         Err(ReadAnswer::Memory) => Err(Memory),
     }
 }
 
-fn printed(alloc: Global, script: &Script) -> Result<Output, Memory>
-    ensures { IsUnlessMemory (checked (Ok script.now)) (made result) }
+fn printed_script(alloc: Global, script: &Script) -> Result<Output, Memory>
+    ensures { IsUnlessMemory (printed script.now) (made result) }
 {
     let text = print(alloc, script)?;
     Ok(Output {

@@ -2,9 +2,11 @@
 ghost use Rattle.std.specs.Prelude.{◌≡◌};
 ghost use Rattle.pac_plan.specs.Follows.{IsUnlessMemory, Ends};
 ghost use Rattle.pac_command.specs.Scripts as scripts;
+ghost use Rattle.pac_command.specs.Map as maps;
 ghost use Rattle.pac_plan.specs.OutputView.{made};
 
 use crate::Status;
+use batch_text::NamesKind;
 use js_tree::{Place, ReadKind};
 use pac_plan::{Output, line};
 use pac_ports::FilesAnswer;
@@ -50,5 +52,26 @@ fn kind_name(kind: ReadKind) -> &'static str
         ReadKind::TooDeep => "TooDeep",
         ReadKind::FractionLiteral => "FractionLiteral",
         ReadKind::Unsupported => "Unsupported",
+    }
+}
+
+/// The output where a line of a names file is refused, by its number from 1.
+pub(crate) fn refused_names(alloc: Global, kind: NamesKind, line: u32) -> Result<Output, Memory>
+    ensures { IsUnlessMemory (maps.refused_names (kind, line)) (made result) }
+{
+    let name = names_kind(kind);
+    let text = format!(in alloc; "refused names {line} {name}\n")?;
+    Ok(Output {
+        status: Status::Refused,
+        text: text.into_bytes(),
+    })
+}
+
+fn names_kind(kind: NamesKind) -> &'static str
+    ensures { result.now ≡ maps.names_kind kind }
+{
+    match kind {
+        NamesKind::BadLine => "BadLine",
+        NamesKind::Twice => "Twice",
     }
 }

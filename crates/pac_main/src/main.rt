@@ -1,11 +1,12 @@
 //! The program `pac`: makes the real outside, does what the words ask for and exits with the status.
 //!
-//! All that matters is `pac` of pac_command; here stand the adapters to real files and standard output, a few lines
-//! each, and those of pac_net to the network are made. They are the trusted edge: that they do what they say is the
+//! All that matters is `pac` of pac_command; here stand the adapters to real files, standard output and the machine's
+//! clock, a few lines each, and those of pac_net to the network are made. They are the trusted edge: that they do what they say is the
 //! machine's matter.
 #![tactic(auto)]
 
 mod disk_files;
+mod machine_clock;
 mod standard_output;
 #[cfg(test)]
 mod tests;
@@ -14,9 +15,9 @@ mod words;
 ghost use Rattle.std.specs.Prelude.{◌≡◌, ◌<◌};
 
 use disk_files::DiskFiles;
+use machine_clock::MachineClock;
 use pac_command::{Status, pac};
 use pac_net::{RandomDice, UdpLink};
-use pac_ports::FixedClock;
 use standard_output::StandardOutput;
 use std::io;
 use std::marker::Brand;
@@ -51,7 +52,7 @@ fn called<L: Ledger, R: std::rt::Files + Print + AllocGlobal + Net + Clock + Ran
     let mut files = DiskFiles::new(rt);
     let mut out = StandardOutput::new(rt);
     let mut link = UdpLink::new(rt);
-    let mut clock = FixedClock::new(0);
+    let mut clock = MachineClock::new(rt);
     let mut dice = RandomDice::new(rt);
     let mut runs = Steps::<L>::new(blank);
     pac(

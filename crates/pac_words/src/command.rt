@@ -1,6 +1,8 @@
 // What the words ask for.
 ghost use Rattle.std.specs.Prelude.{◌<◌, ◌≤◌};
+ghost use Rattle.std.specs.Option.{ForSome};
 
+use pac_calendar::Zone;
 use pac_ports::Server;
 
 /// Where and how often a name is asked for.
@@ -21,10 +23,10 @@ pub struct Asking {
 pub struct Running {
     pub fuel: u64,
     pub my_ip: u32,
-    /// Minutes east of UTC.
-    pub zone: i32,
-    /// The moment, where it isn't the clock's.
+    pub zone: Zone,
+    /// The moment, in seconds since 1970 in UTC, where it isn't the clock's.
     pub now: Option<u64>,
+    ghost now_within: { ForSome now (λ seconds. seconds ≤ 253_370_764_799) },
 }
 
 /// One URL, or a file of many.

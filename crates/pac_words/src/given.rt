@@ -1,19 +1,21 @@
 // The commands from their matches.
 
-ghost use Rattle.std.specs.Prelude.{◌≡◌, codes, option_map};
-ghost use Rattle.pac_words.specs.Commands.{asking_of, running_of, resolve_of, map_of, check_of, ask_of, generate_of, source_from, now_of, number_given};
+ghost use Rattle.std.specs.Prelude.{◌≡◌, ◌≤◌, IfSome, codes, option_map};
+ghost use Rattle.std.specs.Option.{ForSome};
+ghost use Rattle.pac_words.specs.Commands.{asking_of, running_of, resolve_of, map_of, check_of, ask_of, generate_of, source_from, now_of, zone_or, number_given};
 ghost use Rattle.pac_words.specs.Views.{asking_view, running_view, source_view, command_view, given_in};
 
 use crate::command::{Asking, Command, Running, Source};
 use crate::number::{number, number_or};
 use crate::parse::value;
 use crate::quad::{LOCAL, quad_or, server_or};
-use crate::zone::zone_or;
 use clap::ArgMatches;
+use pac_calendar::{Zone, read_zone};
 
 // The moment of an option `--now`; the inner None is the clock's.
 fn moment(text: Option<&str>) -> Option<Option<u64>>
-    ensures { result ≡ now_of (option_map (λ t. t.now) text.entry) }
+    ensures moment { result ≡ now_of (option_map (λ t. t.now) text.entry) }
+    ensures within { IfSome result (λ now. ForSome now (λ seconds. seconds ≤ 253_370_764_799)) }
 {
     match text {
         None => Some(None),
@@ -21,6 +23,16 @@ fn moment(text: Option<&str>) -> Option<Option<u64>>
             None => None,
             Some(now) => Some(Some(now)),
         },
+    }
+}
+
+// The zone of an option `--zone`.
+fn zone(text: Option<&str>) -> Option<Zone>
+    ensures { result ≡ zone_or (option_map (λ t. t.now) text.entry) }
+{
+    match text {
+        None => read_zone("UTC"),
+        Some(text) => read_zone(text),
     }
 }
 
@@ -61,7 +73,7 @@ fn running(matches: &ArgMatches<'_>) -> Option<Running>
 {
     let fuel = number_or(value(matches, "fuel"), 10_000_000, 1, 1_000_000_000)?;
     let my_ip = quad_or(value(matches, "my-ip"), LOCAL)?;
-    let zone = zone_or(value(matches, "zone"))?;
+    let zone = zone(value(matches, "zone"))?;
     let now = moment(value(matches, "now"))?;
     Some(Running {
         fuel,

@@ -1,14 +1,18 @@
 //! What scripts come to: values, results and faults with their places: a table of scripts.
 //!
-//! The rows are written from ECMA-262 edition 5.1, sections 8 to 13 and 15.11, as the profile in docs/LANGUAGE.md has
-//! them. Each script is run twice over fresh hosts, and must come to the same. It reads the rows from its input, and
-//! stands on js_parser, js_scope and js_interp.
+//! The rows are written from ECMA-262 edition 5.1, sections 8 to 13 and 15.11, and from the page on the Netscape
+//! Navigator Proxy Auto-Config format, as the profile in docs/LANGUAGE.md has them. Each script is run twice over fresh
+//! hosts, and must come to the same: how it ends, the names that it asks and the alerts that are kept. In each run it
+//! is Tuesday, 14 November 2023, 22:13:20 in GMT, and five hours later in the zone; the machine is 192.168.1.10. It
+//! reads the rows from its input, and stands on js_parser, js_scope and js_interp.
 #![tactic(auto)]
 
+mod answers;
 mod scripts;
+mod surroundings;
 
 use anyhow::{Result, bail};
-use scripts::outcome;
+use scripts::{counted, outcome, outcome_of_known};
 use std::alloc::Global;
 
 /// How much fuel a script has where its row doesn't say it.
@@ -21,8 +25,10 @@ fn main(rt: HostRuntime) -> Result<()> {
 fn answer(alloc: Global, part: &str, fields: &[&str]) -> Result<String> {
     match part {
         "values" => value(alloc, fields),
-        "bodies" => body(alloc, fields),
-        "scripts" => script(alloc, fields),
+        "bodies" => outcome(alloc, with_body(alloc, fields)?.as_str(), FUEL),
+        "unknown names" => outcome_of_known(alloc, with_body(alloc, fields)?.as_str(), FUEL),
+        "scripts" => outcome(alloc, only(fields)?, FUEL),
+        "counts" => counted(alloc, only(fields)?, FUEL),
         "fuel" => fueled(alloc, fields),
         "repeated" => repeated(alloc, fields),
         _ => bail!("no part {part}"),
@@ -31,29 +37,24 @@ fn answer(alloc: Global, part: &str, fields: &[&str]) -> Result<String> {
 
 /// The type and the text of an expression's value.
 fn value(alloc: Global, fields: &[&str]) -> Result<String> {
-    let [expression] = fields else {
-        bail!("an expression");
-    };
+    let expression = only(fields)?;
     let script = format!(in alloc;
         "function FindProxyForURL() {{ var v = {expression}; return typeof v + ' ' + v; }}"
     )?;
     outcome(alloc, script.as_str(), FUEL)
 }
 
-/// What a function comes to with these statements as its body.
-fn body(alloc: Global, fields: &[&str]) -> Result<String> {
-    let [statements] = fields else {
-        bail!("statements");
-    };
-    let script = format!(in alloc; "function FindProxyForURL(url, host) {{ {statements} }}")?;
-    outcome(alloc, script.as_str(), FUEL)
+/// A script whose function has these statements as its body.
+fn with_body(alloc: Global, fields: &[&str]) -> Result<String> {
+    let statements = only(fields)?;
+    Ok(format!(in alloc; "function FindProxyForURL(url, host) {{ {statements} }}")?)
 }
 
-fn script(alloc: Global, fields: &[&str]) -> Result<String> {
-    let [script] = fields else {
-        bail!("a script");
-    };
-    outcome(alloc, script, FUEL)
+fn only<'a>(fields: &[&'a str]) -> Result<&'a str> {
+    match fields {
+        [field] => Ok(*field),
+        _ => bail!("one field"),
+    }
 }
 
 /// A script with so much fuel.

@@ -1,10 +1,12 @@
 // Scripts that are run.
 ghost use Rattle.std.specs.Prelude.{◌≡◌, ◌<◌};
 
-use answer_table::AnswerTable;
+use crate::answers::{written, written_in_numbers};
+use crate::surroundings::{NOW, SETTINGS, known_names};
 use anyhow::{Context, Result, bail, ensure};
-use case_rows::{text, written_text};
-use js_interp::{Ending, Entry, Fault, Outcome, RunAnswer, run};
+use case_rows::text;
+use js_host::Host;
+use js_interp::{Entry, RunAnswer, run};
 use js_parser::read_script;
 use js_scope::{Program, resolve};
 use js_tree::ReadAnswer;
@@ -12,11 +14,32 @@ use std::alloc::Global;
 use std::marker::Brand;
 use std::sync::ledger::{Blank, Ledger};
 use step_counter::Steps;
-use tracing_host::MapHost;
-use utf16_text::Text;
+use tracing_host::{MapHost, TracingHost};
 
-/// What a script comes to that is run twice, each time over a host of its own.
+/// What a script comes to over a host to which a name that it doesn't know has no address.
 pub(crate) fn outcome(alloc: Global, source: &str, fuel: u64) -> Result<String> {
+    told_twice(alloc, source, fuel, over_map)
+}
+
+/// The same with the names and alerts in numbers.
+pub(crate) fn counted(alloc: Global, source: &str, fuel: u64) -> Result<String> {
+    told_twice(alloc, source, fuel, counted_over_map)
+}
+
+/// What it comes to over a host at which it stops where it asks a name that the host doesn't know.
+pub(crate) fn outcome_of_known(alloc: Global, source: &str, fuel: u64) -> Result<String> {
+    told_twice(alloc, source, fuel, over_table)
+}
+
+/// What is told of a script each time that it is run.
+fn told_twice<F: Fn(Global, &Program, &Entry) -> Result<String>>(
+    alloc: Global,
+    source: &str,
+    fuel: u64,
+    tell: F,
+) -> Result<String>
+    requires { F.IsAlwaysCallable tell }
+{
     let source = text(alloc, source)?;
     ensure!(
         source.len() <= 1_048_576,
@@ -30,58 +53,65 @@ pub(crate) fn outcome(alloc: Global, source: &str, fuel: u64) -> Result<String> 
         Err(ReadAnswer::Memory) => bail!("memory"),
     };
     let program = resolve(alloc, script).context("memory")?;
-    let entry = Entry {
-        url: text(alloc, "http://example.com/a")?,
-        host: text(alloc, "example.com")?,
-        fuel,
-    };
-    let first = told(alloc, &program, &entry)?;
-    let second = told(alloc, &program, &entry)?;
+    let entry = entry_with(alloc, fuel)?;
+    let first = tell(alloc, &program, &entry)?;
+    let second = tell(alloc, &program, &entry)?;
     ensure!(first == second, "two runs differ: {first}, {second}");
     Ok(first)
 }
 
-/// What one run comes to, over a host and a counter of its own.
-fn told(alloc: Global, program: &Program, entry: &Entry) -> Result<String> {
-    one_run::<Brand>(alloc, program, entry, Blank::new(1))
+fn entry_with(alloc: Global, fuel: u64) -> Result<Entry> {
+    Ok(Entry {
+        url: text(alloc, "http://example.com/a")?,
+        host: text(alloc, "example.com")?,
+        now: NOW,
+        settings: SETTINGS,
+        fuel,
+    })
 }
 
-fn one_run<L: Ledger>(
+fn over_map(alloc: Global, program: &Program, entry: &Entry) -> Result<String> {
+    let names = known_names(alloc)?;
+    let mut host = MapHost::new(alloc, &names);
+    let answer = answer_over(alloc, program, entry, &mut host);
+    written(alloc, &answer, host.asked().as_slice())
+}
+
+fn counted_over_map(alloc: Global, program: &Program, entry: &Entry) -> Result<String> {
+    let names = known_names(alloc)?;
+    let mut host = MapHost::new(alloc, &names);
+    let answer = answer_over(alloc, program, entry, &mut host);
+    written_in_numbers(alloc, &answer, host.asked().as_slice())
+}
+
+fn over_table(alloc: Global, program: &Program, entry: &Entry) -> Result<String> {
+    let names = known_names(alloc)?;
+    let mut host = TracingHost::new(alloc, &names);
+    let answer = answer_over(alloc, program, entry, &mut host);
+    written(alloc, &answer, host.asked().as_slice())
+}
+
+/// What one run comes to, with a counter of its own.
+fn answer_over<H: Host>(
     alloc: Global,
     program: &Program,
     entry: &Entry,
+    host: &mut H,
+) -> RunAnswer {
+    one_run::<H, Brand>(alloc, program, entry, host, Blank::new(1))
+}
+
+fn one_run<H: Host, L: Ledger>(
+    alloc: Global,
+    program: &Program,
+    entry: &Entry,
+    host: &mut H,
     blank: Blank,
-) -> Result<String>
+) -> RunAnswer
     requires name { blank.name ≡ L.name }
     requires parts { blank.parts ≡ L.parts }
     requires some { 0 < blank.parts }
 {
     let mut runs = Steps::<L>::new(blank);
-    let table = AnswerTable::new(alloc);
-    let mut host = MapHost::new(alloc, &table);
-    match run(alloc, program, entry, &mut host, &mut runs) {
-        RunAnswer::Done(outcome) => written(alloc, &outcome.copy(alloc)?),
-        RunAnswer::Missing(_) => bail!("a name is missing"),
-        RunAnswer::Memory => bail!("memory"),
-    }
-}
-
-fn written(alloc: Global, outcome: &Outcome) -> Result<String> {
-    match &outcome.ending {
-        Ending::Result(text) => {
-            let text = written_text(alloc, text)?;
-            Ok(format!(in alloc; "result {text}")?)
-        }
-        Ending::Fault(fault) => fault_line(alloc, fault),
-    }
-}
-
-fn fault_line(alloc: Global, fault: &Fault) -> Result<String> {
-    let code = fault.code;
-    let place = fault.place;
-    let detail = written_text(alloc, &fault.detail)?;
-    if detail.is_empty() {
-        return Ok(format!(in alloc; "{code:?} at {place}")?);
-    }
-    Ok(format!(in alloc; "{code:?} at {place} {detail}")?)
+    run(alloc, program, entry, host, &mut runs)
 }

@@ -14,3 +14,4 @@ mod variables;
 pub use name_table::NameTable;
 pub use names::names_of;
 pub use scopes::Scopes;
+pub use variables::add_variables;

@@ -12,4 +12,4 @@ pub returns-in_err-define_as : goal.returns-in_err-define_as
 returns-in_err-define_as g c = chained _ _ _ _ _ _ _ (c.in_ok-test_text.ensures _) (chained _ _ _ _ _ _ _ c.in_ok-error.ensures (stops _ _ _ _ _ _ c.from_residual-in_err-define_as.ensures.1 c.in_err-define_as.ensures))
 
 pub returns : goal.returns
-returns g c = chained _ _ _ _ _ _ _ (c.in_ok-test_text.ensures _) (chained _ _ _ _ _ _ _ c.in_ok-error.ensures (chained _ _ _ _ _ _ _ c.in_ok-define_as.ensures (record { is = λ after fuel base. refl })))
+returns g c = chained _ _ _ _ _ _ _ (c.in_ok-test_text.ensures _) (chained _ _ _ _ _ _ _ c.in_ok-error.ensures (chained _ _ _ _ _ _ _ c.in_ok-define_as.ensures (record { is = λ after fuel beside. refl })))

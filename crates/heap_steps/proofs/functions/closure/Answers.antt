@@ -18,4 +18,4 @@ pub returns-in_err-define_as-3 : goal.returns-in_err-define_as-3
 returns-in_err-define_as-3 c = chained _ _ _ _ _ _ _ c.in_ok-function.ensures (chained _ _ _ _ _ _ _ (rw c.from.ensures at c.in_ok-define_as.ensures) (chained _ _ _ _ _ _ _ c.in_ok-prototype.ensures (chained _ _ _ _ _ _ _ c.in_ok-define_as-2.ensures (stops _ _ _ _ _ _ c.from_residual-in_err-define_as-3.ensures.1 c.in_err-define_as-3.ensures))))
 
 pub returns : goal.returns
-returns c = chained _ _ _ _ _ _ _ c.in_ok-function.ensures (chained _ _ _ _ _ _ _ (rw c.from.ensures at c.in_ok-define_as.ensures) (chained _ _ _ _ _ _ _ c.in_ok-prototype.ensures (chained _ _ _ _ _ _ _ c.in_ok-define_as-2.ensures (chained _ _ _ _ _ _ _ c.in_ok-define_as-3.ensures (record { is = λ after fuel base. refl })))))
+returns c = chained _ _ _ _ _ _ _ c.in_ok-function.ensures (chained _ _ _ _ _ _ _ (rw c.from.ensures at c.in_ok-define_as.ensures) (chained _ _ _ _ _ _ _ c.in_ok-prototype.ensures (chained _ _ _ _ _ _ _ c.in_ok-define_as-2.ensures (chained _ _ _ _ _ _ _ c.in_ok-define_as-3.ensures (record { is = λ after fuel beside. refl })))))

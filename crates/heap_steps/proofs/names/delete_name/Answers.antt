@@ -6,13 +6,13 @@ use Rattle.heap_steps.proofs.Chains.{as_part}
 use Rattle.heap_steps.proofs.names.delete_name.Goals as goal
 
 pub returns-in-Global : goal.returns-in-Global
-returns-in-Global c = as_part _ (λ after fuel base. ap (λ b. delete_bound c.args.name.now.name b c.args.place after (state_with c.args.heap.now fuel base)) c.in-Global.is) (rw (by_number _ _ c.built_in.ensures) at c.delete_property.ensures)
+returns-in-Global c = as_part _ (λ after fuel beside. ap (λ b. delete_bound c.args.name.now.name b c.args.place after (state_with c.args.heap.now fuel beside)) c.in-Global.is) (rw (by_number _ _ c.built_in.ensures) at c.delete_property.ensures)
 
 pub returns-in-Slot : goal.returns-in-Slot
-returns-in-Slot c = record { is = λ after fuel base. ap (λ b. delete_bound c.args.name.now.name b c.args.place after (state_with c.args.heap.now fuel base)) c.in-Slot.is }
+returns-in-Slot c = record { is = λ after fuel beside. ap (λ b. delete_bound c.args.name.now.name b c.args.place after (state_with c.args.heap.now fuel beside)) c.in-Slot.is }
 
 pub returns-in-Own : goal.returns-in-Own
-returns-in-Own c = record { is = λ after fuel base. ap (λ b. delete_bound c.args.name.now.name b c.args.place after (state_with c.args.heap.now fuel base)) c.in-Own.is }
+returns-in-Own c = record { is = λ after fuel beside. ap (λ b. delete_bound c.args.name.now.name b c.args.place after (state_with c.args.heap.now fuel beside)) c.in-Own.is }
 
 pub returns-in-Unbound : goal.returns-in-Unbound
-returns-in-Unbound c = record { is = λ after fuel base. ap (λ b. delete_bound c.args.name.now.name b c.args.place after (state_with c.args.heap.now fuel base)) c.in-Unbound.is }
+returns-in-Unbound c = record { is = λ after fuel beside. ap (λ b. delete_bound c.args.name.now.name b c.args.place after (state_with c.args.heap.now fuel beside)) c.in-Unbound.is }

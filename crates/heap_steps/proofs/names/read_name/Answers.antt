@@ -14,18 +14,18 @@ returns-in_err-read_slot-in-Own c = λ this. forgets _ _ c.from_residual-in_err-
 
 pub returns-in_ok-read_slot-in-Slot : goal.returns-in_ok-read_slot-in-Slot
 returns-in_ok-read_slot-in-Slot c = λ this. record {
-  is = λ after fuel base. ap (λ b. read_bound (record { scope = c.args.scope; this = this }) c.args.name.now.name b c.args.place after (state_with c.args.heap.now fuel base)) c.in-Slot.is
-      ∙ ap (λ v. after (Ok v) (state_with c.args.heap.now fuel base)) (sym (c.in_ok-read_slot-in-Slot.ensures ∙ ap (λ (s : ScopeId). slot_of c.args.heap.now s c.in-Slot.slot) c.scope_out-holder.ensures));
+  is = λ after fuel beside. ap (λ b. read_bound (record { scope = c.args.scope; this = this }) c.args.name.now.name b c.args.place after (state_with c.args.heap.now fuel beside)) c.in-Slot.is
+      ∙ ap (λ v. after (Ok v) (state_with c.args.heap.now fuel beside)) (sym (c.in_ok-read_slot-in-Slot.ensures ∙ ap (λ (s : ScopeId). slot_of c.args.heap.now s c.in-Slot.slot) c.scope_out-holder.ensures));
 }
 
 pub returns-in_ok-read_slot-in-Own : goal.returns-in_ok-read_slot-in-Own
 returns-in_ok-read_slot-in-Own c = λ this. record {
-  is = λ after fuel base. ap (λ b. read_bound (record { scope = c.args.scope; this = this }) c.args.name.now.name b c.args.place after (state_with c.args.heap.now fuel base)) c.in-Own.is
-      ∙ ap (λ v. after (Ok v) (state_with c.args.heap.now fuel base)) (sym (c.in_ok-read_slot-in-Own.ensures ∙ ap (λ (s : ScopeId). slot_of c.args.heap.now s 0) c.scope_out-holder-in-Own.ensures));
+  is = λ after fuel beside. ap (λ b. read_bound (record { scope = c.args.scope; this = this }) c.args.name.now.name b c.args.place after (state_with c.args.heap.now fuel beside)) c.in-Own.is
+      ∙ ap (λ v. after (Ok v) (state_with c.args.heap.now fuel beside)) (sym (c.in_ok-read_slot-in-Own.ensures ∙ ap (λ (s : ScopeId). slot_of c.args.heap.now s 0) c.scope_out-holder-in-Own.ensures));
 }
 
 pub returns-in-Global : goal.returns-in-Global
-returns-in-Global c = λ this. as_part _ (λ after fuel base. ap (λ b. read_bound (record { scope = c.args.scope; this = this }) c.args.name.now.name b c.args.place after (state_with c.args.heap.now fuel base)) c.in-Global.is) c.read_global.ensures
+returns-in-Global c = λ this. as_part _ (λ after fuel beside. ap (λ b. read_bound (record { scope = c.args.scope; this = this }) c.args.name.now.name b c.args.place after (state_with c.args.heap.now fuel beside)) c.in-Global.is) c.read_global.ensures
 
 pub returns-in-Unbound : goal.returns-in-Unbound
-returns-in-Unbound c = λ this. record { is = λ after fuel base. ap (λ b. read_bound (record { scope = c.args.scope; this = this }) c.args.name.now.name b c.args.place after (state_with c.args.heap.now fuel base)) c.in-Unbound.is }
+returns-in-Unbound c = λ this. record { is = λ after fuel beside. ap (λ b. read_bound (record { scope = c.args.scope; this = this }) c.args.name.now.name b c.args.place after (state_with c.args.heap.now fuel beside)) c.in-Unbound.is }

@@ -8,7 +8,7 @@ use Rattle.heap_steps.proofs.Operators.{uncounted}
 use Rattle.heap_steps.proofs.primitives.counted.Goals as goal
 
 pub returns-in-Text : goal.returns-in-Text
-returns-in-Text c = λ call. rw c.in-Text.is c.counted_text.ensures
+returns-in-Text c = rw c.in-Text.is c.counted_text.ensures
 
 pub returns-in_default : goal.returns-in_default
-returns-in_default c = λ call. as_part {q = pure c.args.value} _ (λ after fuel base. ap (λ (p : Does Value). p after (state_with c.args.heap.now fuel base)) (uncounted call _ c.args.place c.in_default.not-Text)) (record { is = λ after fuel base. refl })
+returns-in_default c = as_part {q = pure c.args.value} _ (λ after fuel beside. ap (λ (p : Does Value). p after (state_with c.args.heap.now fuel beside)) (uncounted _ c.args.place c.in_default.not-Text)) (record { is = λ after fuel beside. refl })

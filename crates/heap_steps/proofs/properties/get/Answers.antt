@@ -8,7 +8,7 @@ pub returns-in_err-value : goal.returns-in_err-value
 returns-in_err-value c = forgets _ _ c.from_residual.ensures.1 refl
 
 pub returns-in-Some : goal.returns-in-Some
-returns-in-Some c = record { is = λ after fuel base. ap (λ o. get_or o c.args.base.now c.args.name.now c.args.place after (state_with c.args.heap.now fuel base)) (sym c.in_ok-value.ensures ∙ c.in-Some.is) }
+returns-in-Some c = record { is = λ after fuel beside. ap (λ o. get_or o c.args.base.now c.args.name.now c.args.place after (state_with c.args.heap.now fuel beside)) (sym c.in_ok-value.ensures ∙ c.in-Some.is) }
 
 pub returns-in-None : goal.returns-in-None
-returns-in-None c = as_part _ (λ after fuel base. ap (λ o. get_or o c.args.base.now c.args.name.now c.args.place after (state_with c.args.heap.now fuel base)) (sym c.in_ok-value.ensures ∙ c.in-None.is)) (rw c.holder_of.ensures at c.get_from.ensures)
+returns-in-None c = as_part _ (λ after fuel beside. ap (λ o. get_or o c.args.base.now c.args.name.now c.args.place after (state_with c.args.heap.now fuel beside)) (sym c.in_ok-value.ensures ∙ c.in-None.is)) (rw c.holder_of.ensures at c.get_from.ensures)

@@ -12,4 +12,4 @@ pub returns-in_err-found-in-Some : goal.returns-in_err-found-in-Some
 returns-in_err-found-in-Some c = forgets _ _ c.from_residual.ensures.1 refl
 
 pub returns-in_ok-found-in-Some : goal.returns-in_ok-found-in-Some
-returns-in_ok-found-in-Some c = rw c.in-Some.is (as_part _ (λ after fuel base. ap (λ f. found_value value.Undefined f c.args.place after (state_with c.args.heap.now fuel base)) (sym c.in_ok-found-in-Some.ensures)) (c.found_value.ensures _))
+returns-in_ok-found-in-Some c = rw c.in-Some.is (as_part _ (λ after fuel beside. ap (λ f. found_value value.Undefined f c.args.place after (state_with c.args.heap.now fuel beside)) (sym c.in_ok-found-in-Some.ensures)) (c.found_value.ensures _))

@@ -17,4 +17,4 @@ pub returns-in-Text : goal.returns-in-Text
 returns-in-Text c = rw c.in-Text.is c.throw_type_error-in-Text.ensures
 
 pub returns-in-Object : goal.returns-in-Object
-returns-in-Object c = record { is = λ after fuel base. rw c.in-Object.is rw c.inherits_from.ensures refl }
+returns-in-Object c = record { is = λ after fuel beside. rw c.in-Object.is rw c.inherits_from.ensures refl }

@@ -9,16 +9,16 @@ pub returns-in_err-name : goal.returns-in_err-name
 returns-in_err-name c = forgets _ _ c.from_residual.ensures.1 refl
 
 pub returns-in-LeftOut : goal.returns-in-LeftOut
-returns-in-LeftOut c = record { is = λ after fuel base. ap (λ f. deleted_unless f c.args.object c.args.name.now c.args.place after (state_with c.args.heap.now fuel base)) (sym c.in_ok-name.ensures ∙ c.in-LeftOut.is) }
+returns-in-LeftOut c = record { is = λ after fuel beside. ap (λ f. deleted_unless f c.args.object c.args.name.now c.args.place after (state_with c.args.heap.now fuel beside)) (sym c.in_ok-name.ensures ∙ c.in-LeftOut.is) }
 
 pub returns-in-Absent : goal.returns-in-Absent
 returns-in-Absent c = record {
-  is = λ after fuel base. ap (λ f. deleted_unless f c.args.object c.args.name.now c.args.place after (state_with c.args.heap.now fuel base)) (sym c.in_ok-name.ensures ∙ c.in-Absent.is)
-      ∙ (truth_works c.args.heap.now (deleted_of c.args.heap.now c.args.object c.args.name.now) _ _ c.delete.ensures.answer c.delete.ensures.after).is after fuel base;
+  is = λ after fuel beside. ap (λ f. deleted_unless f c.args.object c.args.name.now c.args.place after (state_with c.args.heap.now fuel beside)) (sym c.in_ok-name.ensures ∙ c.in-Absent.is)
+      ∙ (truth_works c.args.heap.now (deleted_of c.args.heap.now c.args.object c.args.name.now) _ _ c.delete.ensures.answer c.delete.ensures.after).is after fuel beside;
 }
 
 pub returns : goal.returns
 returns c = record {
-  is = λ after fuel base. ap (λ f. deleted_unless f c.args.object c.args.name.now c.args.place after (state_with c.args.heap.now fuel base)) (sym c.in_ok-name.ensures ∙ c.in-Value.is)
-      ∙ (truth_works c.args.heap.now (deleted_of c.args.heap.now c.args.object c.args.name.now) _ _ c.delete-in-Value.ensures.answer c.delete-in-Value.ensures.after).is after fuel base;
+  is = λ after fuel beside. ap (λ f. deleted_unless f c.args.object c.args.name.now c.args.place after (state_with c.args.heap.now fuel beside)) (sym c.in_ok-name.ensures ∙ c.in-Value.is)
+      ∙ (truth_works c.args.heap.now (deleted_of c.args.heap.now c.args.object c.args.name.now) _ _ c.delete-in-Value.ensures.answer c.delete-in-Value.ensures.after).is after fuel beside;
 }

@@ -11,7 +11,7 @@ pub loop-left-preserved : goal.loop-left-preserved
 loop-left-preserved c = λ r h w. c.loop-left.invariant r h (rw (list_step _ _ c.argument-item.is c.in-len1-up.len_at_least) (element_then c.args.place c.args.object c.loop-left.index c.argument-item.result (drop 1 c.loop-left.left.now) _ _ _ _ c.in_ok-define_element.ensures (rw (c.in_ok-index.ensures, list_rest c.loop-left.left.now) at w)))
 
 pub returns : goal.returns
-returns c = c.loop-left.invariant _ _ (rw (let e : length c.loop-left.left.now < 1 = omega arith in list_end _ e) (record { is = λ after fuel base. refl }))
+returns c = c.loop-left.invariant _ _ (rw (let e : length c.loop-left.left.now < 1 = omega arith in list_end _ e) (record { is = λ after fuel beside. refl }))
 
 pub returns-in_err-define_element : goal.returns-in_err-define_element
 returns-in_err-define_element c = c.loop-left.invariant _ _ (rw (list_step _ _ c.argument-item.is c.in-len1-up.len_at_least) (element_stops c.args.place c.args.object c.loop-left.index c.argument-item.result (drop 1 c.loop-left.left.now) _ _ _ _ c.from_residual.ensures.1 c.in_err-define_element.ensures))

@@ -14,4 +14,4 @@ returns-in_err-declare_in c = λ run. c.loop-left.invariant run _ _ (rw (list_st
     (global_stops (map function_of c.args.functions.now) run c.statement-item.result (statements_of (drop 1 c.loop-left.left.now)) _ _ _ _ c.from_residual.ensures.1 (c.in_err-declare_in.ensures run)))
 
 pub returns : goal.returns
-returns c = λ run. c.loop-left.invariant run _ _ (rw (let e : length c.loop-left.left.now < 1 = omega arith in list_end _ e) (record { is = λ after fuel base. refl }))
+returns c = λ run. c.loop-left.invariant run _ _ (rw (let e : length c.loop-left.left.now < 1 = omega arith in list_end _ e) (record { is = λ after fuel beside. refl }))

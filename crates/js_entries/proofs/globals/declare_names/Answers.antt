@@ -12,4 +12,4 @@ returns-in_err-declare_variable c = λ all run. c.loop-left.invariant all run _ 
     (variable_stops all run c.name-item.result (drop 1 c.loop-left.left.now) _ _ _ _ c.from_residual.ensures.1 (c.in_err-declare_variable.ensures all run)))
 
 pub returns : goal.returns
-returns c = λ all run. c.loop-left.invariant all run _ _ (rw (let e : length c.loop-left.left.now < 1 = omega arith in list_end _ e) (record { is = λ after fuel base. refl }))
+returns c = λ all run. c.loop-left.invariant all run _ _ (rw (let e : length c.loop-left.left.now < 1 = omega arith in list_end _ e) (record { is = λ after fuel beside. refl }))

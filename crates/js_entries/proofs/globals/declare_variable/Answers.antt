@@ -11,10 +11,10 @@ pub returns-in_err-get : goal.returns-in_err-get
 returns-in_err-get c = λ all run. forgets _ _ c.from_residual.ensures.1 refl
 
 pub returns-in-Absent : goal.returns-in-Absent
-returns-in-Absent c = λ all run. as_part _ (λ after fuel base. ap (λ f. declared_unless all run f c.args.name.now outside after (state_with c.args.heap.now fuel base)) (sym (c.in_ok-get.ensures ∙ ap (λ id. found_of c.args.heap.now id c.args.name.now) (by_number _ _ c.built_in-global.ensures)) ∙ c.in-Absent.is)) (rw (by_number _ _ c.built_in-global.ensures) at c.define.ensures)
+returns-in-Absent c = λ all run. as_part _ (λ after fuel beside. ap (λ f. declared_unless all run f c.args.name.now outside after (state_with c.args.heap.now fuel beside)) (sym (c.in_ok-get.ensures ∙ ap (λ id. found_of c.args.heap.now id c.args.name.now) (by_number _ _ c.built_in-global.ensures)) ∙ c.in-Absent.is)) (rw (by_number _ _ c.built_in-global.ensures) at c.define.ensures)
 
 pub returns-in-Value : goal.returns-in-Value
-returns-in-Value c = λ all run. record { is = λ after fuel base. ap (λ f. declared_unless all run f c.args.name.now outside after (state_with c.args.heap.now fuel base)) (sym (c.in_ok-get.ensures ∙ ap (λ id. found_of c.args.heap.now id c.args.name.now) (by_number _ _ c.built_in-global.ensures)) ∙ c.in-Value.is) }
+returns-in-Value c = λ all run. record { is = λ after fuel beside. ap (λ f. declared_unless all run f c.args.name.now outside after (state_with c.args.heap.now fuel beside)) (sym (c.in_ok-get.ensures ∙ ap (λ id. found_of c.args.heap.now id c.args.name.now) (by_number _ _ c.built_in-global.ensures)) ∙ c.in-Value.is) }
 
 pub returns : goal.returns
-returns c = λ all run. record { is = λ after fuel base. ap (λ f. declared_unless all run f c.args.name.now outside after (state_with c.args.heap.now fuel base)) (sym (c.in_ok-get.ensures ∙ ap (λ id. found_of c.args.heap.now id c.args.name.now) (by_number _ _ c.built_in-global.ensures)) ∙ c.in-LeftOut.is) }
+returns c = λ all run. record { is = λ after fuel beside. ap (λ f. declared_unless all run f c.args.name.now outside after (state_with c.args.heap.now fuel beside)) (sym (c.in_ok-get.ensures ∙ ap (λ id. found_of c.args.heap.now id c.args.name.now) (by_number _ _ c.built_in-global.ensures)) ∙ c.in-LeftOut.is) }

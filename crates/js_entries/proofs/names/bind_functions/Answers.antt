@@ -14,4 +14,4 @@ returns-in_err-bind_function c = λ this. c.loop-left.invariant this _ _ (rw (li
     (function_stops (map function_of c.args.functions.now) (record { scope = c.args.scope; this = this }) c.args.place c.statement-item.result (statements_of (drop 1 c.loop-left.left.now)) _ _ _ _ c.from_residual.ensures.1 (c.in_err-bind_function.ensures this)))
 
 pub returns : goal.returns
-returns c = λ this. c.loop-left.invariant this _ _ (rw (let e : length c.loop-left.left.now < 1 = omega arith in list_end _ e) (record { is = λ after fuel base. refl }))
+returns c = λ this. c.loop-left.invariant this _ _ (rw (let e : length c.loop-left.left.now < 1 = omega arith in list_end _ e) (record { is = λ after fuel beside. refl }))

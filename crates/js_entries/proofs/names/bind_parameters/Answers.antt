@@ -16,4 +16,4 @@ returns-in_err-write_name c = λ this. c.loop-left.invariant this _ _ (rw (list_
     (parameter_stops (record { scope = c.args.scope; this = this }) c.args.place c.name-item.result (drop 1 c.loop-left.left.now) c.loop-left.values.now _ _ _ _ c.from_residual-in_err-write_name.ensures.1 (rw c.in_ok-value.ensures at (c.in_err-write_name.ensures this))))
 
 pub returns : goal.returns
-returns c = λ this. c.loop-left.invariant this _ _ (rw (let e : length c.loop-left.left.now < 1 = omega arith in list_end _ e) (record { is = λ after fuel base. refl }))
+returns c = λ this. c.loop-left.invariant this _ _ (rw (let e : length c.loop-left.left.now < 1 = omega arith in list_end _ e) (record { is = λ after fuel beside. refl }))

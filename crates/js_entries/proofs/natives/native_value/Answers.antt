@@ -33,5 +33,8 @@ returns-in-ErrorToString c = rw c.in-ErrorToString.is c.error_text.ensures
 pub returns-in-ObjectToString : goal.returns-in-ObjectToString
 returns-in-ObjectToString c = rw c.in-ObjectToString.is c.object_text.ensures
 
+pub returns-in-ObjectValueOf : goal.returns-in-ObjectValueOf
+returns-in-ObjectValueOf c = rw c.in-ObjectValueOf.is c.gives.ensures
+
 pub returns : goal.returns
-returns c = rw c.in-ObjectValueOf.is c.gives.ensures
+returns c = rw c.in-Pac.is c.pac_value.ensures

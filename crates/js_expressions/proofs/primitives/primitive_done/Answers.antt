@@ -32,3 +32,9 @@ returns-in-Message c = rw c.in-Message.is c.error_by.ensures
 
 pub returns-in-ErrorName : goal.returns-in-ErrorName
 returns-in-ErrorName c = rw c.in-ErrorName.is c.error_named.ensures
+
+pub returns-in-ErrorMessage : goal.returns-in-ErrorMessage
+returns-in-ErrorMessage c = rw c.in-ErrorMessage.is c.error_text.ensures
+
+pub returns : goal.returns
+returns c = rw c.in-Argument.is c.argument_converted.ensures

@@ -1,6 +1,13 @@
-use Rattle.js_interp.proofs.Runs.{answers_done}
+use Rattle.std.proofs.Common.{sym, ap, ◌∙◌}
+use Rattle.js_host.specs.Seen.{Seen}
+use Rattle.js_interp.proofs.Runs.{answers_done, answers_missing}
 use Rattle.js_interp.proofs.one_run.run.Goals as goal
 
 pub returns-in-Ok-clause-answers : goal.returns-in-Ok-clause-answers
 returns-in-Ok-clause-answers g c = λ known same.
-    answers_done _ _ c.args.entry.now known (g.H.Host.seen c.args.host.now) (record { ending = c.in-Ok.ending; alerts = c.new.result }) same c.in-Ok.ensures c.new.ensures
+    answers_done _ known _ same _ (record { ending = c.in-Ok.ending; alerts = c.run_over.new.alerts }) c.in-Ok.ensures.ends
+    (c.in-Ok.ensures.keeps (c.new-alerts.ensures ∙ sym (ap (λ (s : Seen). s.alerts) same)))
+
+pub returns-in-Err-Missing-clause-answers : goal.returns-in-Err-Missing-clause-answers
+returns-in-Err-Missing-clause-answers g c = λ known same.
+    rw c.in-Err-Missing.field-0-is (answers_missing _ known _ same _ c.in-Err-Missing.name (rw c.in-Err-Missing.field-0-is at c.in-Err-Missing.ensures.ends))

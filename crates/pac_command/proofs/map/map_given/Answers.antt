@@ -1,0 +1,5 @@
+use Rattle.std.proofs.Common.{Ok}
+use Rattle.pac_command.proofs.map.map_given.Goals as goal
+
+pub returns-in-Ok : goal.returns-in-Ok
+returns-in-Ok g c = λ o. (Ok c.in-Ok.bytes.items, _, c.in-Ok.ensures, rw c.deref.ensures.value at (c.map_file.ensures o))

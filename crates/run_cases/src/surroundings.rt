@@ -1,0 +1,50 @@
+// What scripts are told of their surroundings.
+use answer_table::AnswerTable;
+use anyhow::{Context, Result, ensure};
+use pac_calendar::{Civil, Moments};
+use pac_functions::PacSettings;
+use pac_names::{Answer, LookupName};
+use std::alloc::Global;
+
+/// The clocks of GMT and of a zone that is five hours ahead.
+pub(crate) const NOW: Moments = Moments {
+    gmt: Civil {
+        year: 2023,
+        month: 11,
+        day: 14,
+        weekday: 2,
+        hour: 22,
+        minute: 13,
+        second: 20,
+    },
+    local: Civil {
+        year: 2023,
+        month: 11,
+        day: 15,
+        weekday: 3,
+        hour: 3,
+        minute: 13,
+        second: 20,
+    },
+};
+
+/// The machine is 192.168.1.10.
+pub(crate) const SETTINGS: PacSettings = PacSettings { my_ip: 0xC0A8_010A };
+
+/// The names that hosts know: 10.1.2.3, 192.168.7.9, 198.95.249.79, and one without an address.
+const KNOWN: [(&str, Answer); 4] = [
+    ("a.example", Answer::Address(0x0A01_0203)),
+    ("b.example", Answer::Address(0xC0A8_0709)),
+    ("home.netscape.com", Answer::Address(0xC65F_F94F)),
+    ("none.example", Answer::NoAddress),
+];
+
+pub(crate) fn known_names(alloc: Global) -> Result<AnswerTable> {
+    let mut table = AnswerTable::new(alloc);
+    for (name, answer) in KNOWN {
+        let name = LookupName::from_bytes(name.as_bytes()).context("a lookup name")?;
+        ensure!(table.get(&name).is_none(), "each name once");
+        table.insert(alloc, name, answer)?;
+    }
+    Ok(table)
+}
