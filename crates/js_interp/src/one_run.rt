@@ -52,11 +52,9 @@ pub fn run<H: Host, L: Ledger>(
     host: &mut H,
     runs: &mut Steps<L>,
 ) -> RunAnswer
-    ensures answers {
-        (known : Knowledge) → H.seen host.old ≡ fresh known
+    ensures answers { (known : Knowledge) → H.seen host.old ≡ fresh known
         → Answers (run_of (statements_of program.now.body) (scoped.functions_of program.now.functions) entry.entry.now)
-        known result (H.seen host.new)
-    }
+        known result (H.seen host.new) }
     ensures counts { runs.new ≡ runs.old + 1 }
 {
     runs.tick();

@@ -30,7 +30,14 @@ pub fn call_host<'p, H: Host>(
 {
     let values = arguments.as_slice();
     let state = &machine.state;
-    match call_pac(machine.alloc, function, values, &state.now, &state.settings, host) {
+    match call_pac(
+        machine.alloc,
+        function,
+        values,
+        &state.now,
+        &state.settings,
+        host,
+    ) {
         PacAnswer::Value(value) => match keep(machine.alloc, function, values, alerts) {
             Ok(()) => Ok(given_back(machine, value, place)),
             Err(Memory) => Ok(Err(Halt::Memory)),

@@ -13,9 +13,10 @@ pub returns-in_err-now-in-Begin-clause-keeps : goal.returns-in_err-now-in-Begin-
 returns-in_err-now-in-Begin-clause-keeps g c = λ begun. kept_at_end _ _ _ (c.loop-now.invariant.1 begun)
 
 pub loop-now-preserved-in-Begin : goal.loop-now-preserved-in-Begin
-loop-now-preserved-in-Begin g c =
-    (λ last. rw (c.loop-now.invariant.0 last, c.in-Begin.is) (goes_on last _ _ _ _ _ (sym c.in_ok-now-in-Begin.ensures) (goes_over last _ _ _ _ (c.begin.ensures.goes last))),
-    c.loop-now.invariant.1)
+loop-now-preserved-in-Begin g c = (
+  λ last. rw (c.loop-now.invariant.0 last, c.in-Begin.is) (goes_on last _ _ _ _ _ (sym c.in_ok-now-in-Begin.ensures) (goes_over last _ _ _ _ (c.begin.ensures.goes last))),
+  c.loop-now.invariant.1,
+)
 
 pub loop-now-smaller-in-Begin : goal.loop-now-smaller-in-Begin
 loop-now-smaller-in-Begin g c =
@@ -38,10 +39,11 @@ pub returns-in_err-now-in-Some-clause-keeps : goal.returns-in_err-now-in-Some-cl
 returns-in_err-now-in-Some-clause-keeps g c = λ begun. kept_at_end _ _ _ (c.loop-now.invariant.1 begun)
 
 pub loop-now-preserved-in-Some : goal.loop-now-preserved-in-Some
-loop-now-preserved-in-Some g c =
-    (λ last. rw (c.loop-now.invariant.0 last, c.in-Back-Ok.is, c.in-Back-Ok.field-0-is, c.in-Some.ensures.closed)
-    (goes_on last _ _ _ _ _ (sym c.in_ok-now-in-Some.ensures) (goes_over last _ _ _ _ (c.back.ensures.goes last))),
-    c.loop-now.invariant.1)
+loop-now-preserved-in-Some g c = (
+  λ last. rw (c.loop-now.invariant.0 last, c.in-Back-Ok.is, c.in-Back-Ok.field-0-is, c.in-Some.ensures.closed)
+      (goes_on last _ _ _ _ _ (sym c.in_ok-now-in-Some.ensures) (goes_over last _ _ _ _ (c.back.ensures.goes last))),
+  c.loop-now.invariant.1,
+)
 
 pub loop-now-smaller-in-Some : goal.loop-now-smaller-in-Some
 loop-now-smaller-in-Some g c =
@@ -65,10 +67,11 @@ pub returns-in_err-now-in-Some-unwind-clause-keeps : goal.returns-in_err-now-in-
 returns-in_err-now-in-Some-unwind-clause-keeps g c = λ begun. kept_at_end _ _ _ (c.loop-now.invariant.1 begun)
 
 pub loop-now-preserved : goal.loop-now-preserved
-loop-now-preserved g c =
-    (λ last. rw (c.loop-now.invariant.0 last, c.in-Back-Err.is, c.in-Back-Err.field-0-is, unwound-keeps _ last c.in-Back-Err.stop c.loop-now.machine.frames, sym c.of.ensures, c.in-Some-unwind.ensures.taken)
-    (goes_on last _ _ _ _ _ (sym c.in_ok-now-in-Some-unwind.ensures) (goes_over last _ _ _ _ (c.stopped.ensures.goes last))),
-    c.loop-now.invariant.1)
+loop-now-preserved g c = (
+  λ last. rw (c.loop-now.invariant.0 last, c.in-Back-Err.is, c.in-Back-Err.field-0-is, unwound-keeps _ last c.in-Back-Err.stop c.loop-now.machine.frames, sym c.of.ensures, c.in-Some-unwind.ensures.taken)
+      (goes_on last _ _ _ _ _ (sym c.in_ok-now-in-Some-unwind.ensures) (goes_over last _ _ _ _ (c.stopped.ensures.goes last))),
+  c.loop-now.invariant.1,
+)
 
 pub loop-now-smaller : goal.loop-now-smaller
 loop-now-smaller g c =
@@ -91,9 +94,10 @@ returns-in_err-now-in-Ok-clause-keeps g c =
     (rw c.in-Ok.is at (c.call_host.ensures.keeps (c.loop-now.invariant.1 begun)))
 
 pub loop-now-preserved-in-Ok : goal.loop-now-preserved-in-Ok
-loop-now-preserved-in-Ok g c =
-    (λ last. rw (c.loop-now.invariant.0 last, c.in-Host.is) (goes_on last _ _ _ _ _ (sym c.in_ok-now-in-Ok.ensures) (rw c.in-Ok.is at (c.call_host.ensures.goes last))),
-    λ begun. kept_on _ _ _ _ (sym c.in_ok-now-in-Ok.ensures) (rw c.in-Ok.is at (c.call_host.ensures.keeps (c.loop-now.invariant.1 begun))))
+loop-now-preserved-in-Ok g c = (
+  λ last. rw (c.loop-now.invariant.0 last, c.in-Host.is) (goes_on last _ _ _ _ _ (sym c.in_ok-now-in-Ok.ensures) (rw c.in-Ok.is at (c.call_host.ensures.goes last))),
+  λ begun. kept_on _ _ _ _ (sym c.in_ok-now-in-Ok.ensures) (rw c.in-Ok.is at (c.call_host.ensures.keeps (c.loop-now.invariant.1 begun))),
+)
 
 pub loop-now-smaller-in-Ok : goal.loop-now-smaller-in-Ok
 loop-now-smaller-in-Ok g c =
