@@ -112,6 +112,10 @@ impl Poller for OneName {
 
     ghost stands = { λ one task turns. StandsFor one task turns };
 
+    ghost Kept = { Unit {0} };
+
+    ghost kept = { λ one. tt };
+
     fn ended(&self) -> bool {
         self.answer.is_some() || self.stub.is_dead(&self.name)
     }

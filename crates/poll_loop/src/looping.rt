@@ -1,5 +1,5 @@
 // The loop.
-ghost use Rattle.std.specs.Prelude.{◌≡◌, ℕ, ◌+◌, ◌<◌, ◌≤◌, length, map, true};
+ghost use Rattle.std.specs.Prelude.{◌≡◌, ℕ, ◌+◌, ◌<◌, ◌≤◌, OnOk, length, map, true};
 ghost use Rattle.pac_plan.specs.Plan.{Outside};
 ghost use Rattle.poll_log.specs.Turns.{turns_of};
 ghost use Rattle.poll_log.specs.Questions.{octets_of};
@@ -47,11 +47,12 @@ pub fn poll<P: Poller, N: Link, D: Dice, L: Ledger>(
     runs: &mut Steps<L>,
 ) -> Result<(), Stop>
     requires lasts { limit asking.terms ≤ 8000 }
-    ensures { (talk : Talk) (old : Outside) → talk.server ≡ asking.server → talk.task.terms ≡ asking.terms →
+    ensures polled { (talk : Talk) (old : Outside) → talk.server ≡ asking.server → talk.task.terms ≡ asking.terms →
         old.link ≡ N.state link.old →
         Began (P.stands poller.old talk.task) talk.task (map octets_of first.now) old (D.told dice.old) runs.old →
         Polled talk (P.stands poller.new talk.task) old result
         (record old { link = N.state link.new; dice = D.told dice.new; runs = runs.new }) }
+    ensures kept { OnOk result (P.kept poller.new ≡ P.kept poller.old) }
 {
     if first.is_empty() {
         return Ok(());
@@ -80,11 +81,12 @@ fn turn<P: Poller, N: Link, D: Dice, L: Ledger>(
     dice: &mut D,
     runs: &mut Steps<L>,
 ) -> Result<(), Stop>
-    ensures { (talk : Talk) (old : Outside) (count : ℕ) →
+    ensures turned { (talk : Talk) (old : Outside) (count : ℕ) →
         (r : Reached talk (P.stands poller.old talk.task) old (N.state link.old) (D.told dice.old) runs.old count) →
         some_wait talk.task.terms talk.task.jobs (turns_of r.moves) ≡ true →
         Turned talk (P.stands poller.new talk.task) old result
         (N.state link.new) (D.told dice.new) runs.new (count + 1) }
+    ensures kept { OnOk result (P.kept poller.new ≡ P.kept poller.old) }
 {
     let mut buffer = [0; 512];
     let Ok(got) = link.receive(&mut buffer) else {

@@ -1,5 +1,5 @@
 // What polls.
-ghost use Rattle.std.specs.Prelude.{◌≡◌, not, map, IfOk, OnErr};
+ghost use Rattle.std.specs.Prelude.{◌≡◌, not, map, IfOk, OnErr, OnOk};
 ghost use Rattle.poll_log.specs.Turns.{Turns};
 ghost use Rattle.poll_log.specs.Questions.{octets_of};
 ghost use Rattle.poll_log.specs.Jobs.{some_wait};
@@ -20,6 +20,11 @@ pub trait Poller {
     /// It stands for a log of this task.
     ghost stands: { Self → Task → Turns → Type 0 };
 
+    /// What it keeps, whatever it treats.
+    ghost Kept: { Type 0 };
+
+    ghost kept: { Self → Kept };
+
     /// Whether no job waits.
     fn ended(&self) -> bool
         ensures { (task : Task) (turns : Turns) → stands self.now task turns →
@@ -37,5 +42,6 @@ pub trait Poller {
             Stepped (stands self.new task) task turns (event_of event.entry) (map octets_of sent.items)
             (D.told dice.old) (D.told dice.new) runs.old runs.new) }
         ensures memory { OnErr result ((task : Task) (turns : Turns) → stands self.old task turns →
-            StepFails task turns (event_of event.entry) (D.told dice.old) (D.told dice.new) runs.old runs.new) };
+            StepFails task turns (event_of event.entry) (D.told dice.old) (D.told dice.new) runs.old runs.new) }
+        ensures kept { OnOk result (kept self.new ≡ kept self.old) };
 }

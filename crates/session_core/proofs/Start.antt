@@ -208,10 +208,10 @@ any_false f (x ∷ xs) zero d low e = or-left (f x) (list_any f xs) e
 any_false f (x ∷ xs) (suc k) d low e = any_false f xs k d (omega arith) (or-right (f x) (list_any f xs) e)
 
 -- nobody waits any more
-pub all_ended : {R Out End : Type 0} (gives : Out → End → List (List ℕ) → Type 0) (tree : R → RunTree End) (sessions : List (Session R Out)) (table : AnswerMap) (stub : StubState) (n : ℕ) (t : Terms) (jobs' : List Job) (h : Turns) → Stands gives tree sessions table stub n (task_of t jobs') h → some_wait t jobs' h ≡ false → AllEnded gives tree jobs' t h sessions
-all_ended {R = R} {Out = Out} gives tree sessions table stub n t jobs' h s e =
+pub all_ended : {R Out End : Type 0} (gives : Out → End → List (List ℕ) → Type 0) (tree : R → RunTree End) (all : List R) (sessions : List (Session R Out)) (table : AnswerMap) (stub : StubState) (n : ℕ) (t : Terms) (jobs' : List Job) (h : Turns) → map (λ (x : Session R Out). x.run) sessions ≡ all → Stands gives tree sessions table stub n (task_of t jobs') h → some_wait t jobs' h ≡ false → AllEnded gives tree all t h sessions
+all_ended {R = R} {Out = Out} gives tree all sessions table stub n t jobs' h runs s e =
     record {
-      jobs_are = sym (ap (λ (x : Task). x.jobs) s.same);
+      runs_are = runs;
       ended = λ k d low. subst (λ x. HasEnded gives (tree (get_or sessions k d).run) x h (get_or sessions k d).state) terms (end_by k d (get_or sessions k d).state (awake k d low) (placed_by gives tree sessions table stub n (task_of t jobs') h s k d low));
       counted = λ k d low. s.counted k d low ∙ ap (λ x. runs_of x h (job_of (tree (get_or sessions k d).run))) terms;
     }

@@ -1,5 +1,5 @@
 -- What running all sessions over a link comes to.
-use Rattle.std.specs.Prelude.{◌≡◌, ℕ, List}
+use Rattle.std.specs.Prelude.{◌≡◌, ℕ, List, map}
 use Rattle.std.specs.List.{All}
 use Rattle.run_trees.specs.RunTree.{RunTree}
 use Rattle.poll_log.specs.declared.terms.Terms.{Terms}
@@ -13,7 +13,7 @@ use Rattle.session_core.specs.declared.session.State.{State}
 use Rattle.session_core.specs.declared.session.State.TheVariants.{Waiting, Finished, Unanswered}
 use Rattle.session_core.specs.declared.session.Session.{Session}
 use Rattle.session_core.specs.Sessions.{IsOutcome}
-use Rattle.session_core.specs.Stands.{jobs_of, task_of}
+use Rattle.session_core.specs.Stands.{task_of}
 
 -- These jobs, and the server that is asked.
 abbrev pub talk_of : Asking → List Job → Talk
@@ -26,8 +26,9 @@ HasEnded gives run terms turns (Finished out) =
     IsFinished terms turns (job_of run) × IsOutcome gives run (told terms turns) out
 HasEnded gives run terms turns (Unanswered name) = IsUnanswered terms turns (job_of run) name
 
--- The sessions are those of the jobs, each has ended, and was run as often as its waits were told, and once more.
-pub record AllEnded {R Out End : Type 0} (gives : Out → End → List (List ℕ) → Type 0) (tree : R → RunTree End) (jobs : List Job) (terms : Terms) (turns : Turns) (sessions : List (Session R Out)) : Type 0 where
-  pub jobs_are : jobs_of tree sessions ≡ jobs
+-- The sessions are those of the runs, in their order; each has ended, and was run as often as its waits were told, and
+-- once more.
+pub record AllEnded {R Out End : Type 0} (gives : Out → End → List (List ℕ) → Type 0) (tree : R → RunTree End) (runs : List R) (terms : Terms) (turns : Turns) (sessions : List (Session R Out)) : Type 0 where
+  pub runs_are : map (λ s. s.run) sessions ≡ runs
   pub ended : All (λ s. HasEnded gives (tree s.run) terms turns s.state) sessions
   pub counted : All (λ s. s.runs ≡ runs_of terms turns (job_of (tree s.run))) sessions

@@ -3,8 +3,7 @@ ghost use Rattle.std.specs.Prelude.{◌≡◌, IfOk, OnOk, map};
 ghost use Rattle.stub_poller.specs.State.{beaten, resent};
 ghost use Rattle.session_core.specs.Sessions.{buried, died_with};
 
-use crate::State;
-use crate::session::Session;
+use crate::{Session, State};
 use pac_names::LookupName;
 use poll_log::Question;
 use std::alloc::Global;

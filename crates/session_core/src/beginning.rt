@@ -3,10 +3,9 @@ ghost use Rattle.std.specs.Prelude.{◌≡◌, ℕ, ◌+◌, ◌≤◌, IfOk, Li
 ghost use Rattle.poll_loop.specs.Numbers.{GaveAll};
 ghost use Rattle.session_core.specs.Beginning.{Begins};
 
-use crate::Run;
 use crate::cascade::push_asked;
-use crate::session::Session;
 use crate::settling::settle;
+use crate::{Run, Session};
 use answer_table::AnswerTable;
 use pac_ports::Dice;
 use poll_log::Question;
@@ -32,7 +31,8 @@ pub(crate) fn begin<R: Run, D: Dice, L: Ledger>(
     dice: &mut D,
     runs: &mut Steps<L>,
 ) -> Result<Begun<R, R::Outcome>, Memory>
-    ensures ok { IfOk result (λ begun. Begins R.gives R.tree table.now all.items stub.old stub.new (D.told dice.old) (D.told dice.new) begun.sessions.items begun.asked.items) }
+    ensures ok { IfOk result (λ begun. Begins R.gives R.tree table.now all.items
+        stub.old stub.new (D.told dice.old) (D.told dice.new) begun.sessions.items begun.asked.items) }
     ensures memory { OnErr result ((more : List ℕ) × GaveAll (D.told dice.old) more (D.told dice.new)) }
     ensures ran { OnOk result (runs.new ≡ runs.old + length all.items) }
     ensures most { runs.new ≤ runs.old + length all.items }

@@ -8,9 +8,9 @@ ghost use Rattle.poll_loop.specs.Numbers.{GaveAll};
 ghost use Rattle.session_core.specs.Sessions.{count_woken, one_if, waits_for};
 ghost use Rattle.session_core.specs.Cascade.{Cascades, Hears, RunsAgain, told_name, with_answer};
 
-use crate::Run;
-use crate::session::{Session, waits_for};
+use crate::session::waits_for;
 use crate::settling::settle;
+use crate::{Run, Session};
 use answer_table::AnswerTable;
 use pac_names::{Answer, LookupName};
 use pac_ports::Dice;
@@ -21,8 +21,8 @@ use step_counter::Steps;
 use stub_poller::Stub;
 use utf16_text::Memory;
 
-/// Takes the answer that a datagram gives to a question in flight, if it gives one, and runs each session again that waits
-/// for it, in their order. What these runs ask is given.
+/// Takes the answer that a datagram gives to a question in flight, if it gives one, and runs each session again that
+/// waits for it, in their order. What these runs ask is given.
 pub(crate) fn take_datagram<R: Run, D: Dice, L: Ledger>(
     alloc: Global,
     datagram: &[u8],
@@ -35,8 +35,10 @@ pub(crate) fn take_datagram<R: Run, D: Dice, L: Ledger>(
     ensures ok { IfOk result (λ asked. Hears R.gives R.tree (Given datagram.now) table.old table.new
         sessions.old sessions.new stub.old stub.new (D.told dice.old) (D.told dice.new) asked.items) }
     ensures memory { OnErr result ((more : List ℕ) × GaveAll (D.told dice.old) more (D.told dice.new)) }
-    ensures ran { OnOk result (runs.new ≡ runs.old + count_woken (told_name (answered_by datagram.now stub.old.flights)) sessions.old) }
-    ensures most { runs.new ≤ runs.old + count_woken (told_name (answered_by datagram.now stub.old.flights)) sessions.old }
+    ensures ran { OnOk result (runs.new ≡
+        runs.old + count_woken (told_name (answered_by datagram.now stub.old.flights)) sessions.old) }
+    ensures most { runs.new ≤
+        runs.old + count_woken (told_name (answered_by datagram.now stub.old.flights)) sessions.old }
 {
     let Some((name, answer)) = stub.on_datagram(datagram) else {
         return Ok(Vec::new(alloc));
@@ -71,8 +73,8 @@ fn rerun<R: Run, D: Dice, L: Ledger>(
     dice: &mut D,
     runs: &mut Steps<L>,
 ) -> Result<Vec<Question>, Memory>
-    ensures ok { IfOk result (λ asked. Cascades R.gives R.tree (Some name.now) (map.get table.now) sessions.old sessions.new
-        stub.old stub.new (D.told dice.old) (D.told dice.new) asked.items) }
+    ensures ok { IfOk result (λ asked. Cascades R.gives R.tree (Some name.now) (map.get table.now)
+        sessions.old sessions.new stub.old stub.new (D.told dice.old) (D.told dice.new) asked.items) }
     ensures memory { OnErr result ((more : List ℕ) × GaveAll (D.told dice.old) more (D.told dice.new)) }
     ensures ran { OnOk result (runs.new ≡ runs.old + count_woken (Some name.now) sessions.old) }
     ensures most { runs.new ≤ runs.old + count_woken (Some name.now) sessions.old }
@@ -95,8 +97,8 @@ fn rerun_one<R: Run, D: Dice, L: Ledger>(
     dice: &mut D,
     runs: &mut Steps<L>,
 ) -> Result<Option<Question>, Memory>
-    ensures ok { IfOk result (λ asked. RunsAgain R.gives R.tree (waits_for name.now session.old.state) table.now session.old session.new
-        stub.old stub.new (D.told dice.old) (D.told dice.new) (option_to_list asked)) }
+    ensures ok { IfOk result (λ asked. RunsAgain R.gives R.tree (waits_for name.now session.old.state) table.now
+        session.old session.new stub.old stub.new (D.told dice.old) (D.told dice.new) (option_to_list asked)) }
     ensures memory { OnErr result ((more : List ℕ) × GaveAll (D.told dice.old) more (D.told dice.new)) }
     ensures ran { runs.new ≡ runs.old + one_if (waits_for name.now session.old.state) }
 {

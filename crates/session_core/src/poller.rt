@@ -11,8 +11,8 @@ use crate::beats::take_beat;
 use crate::beginning::{Begun, begin};
 use crate::counting::counts_beat;
 use crate::events::hear;
-use crate::session::{Session, outcome_of, some_wait, without_outcome};
-use crate::{Run, SessionState};
+use crate::session::{outcome_of, some_wait, without_outcome};
+use crate::{Run, Session, SessionState};
 use answer_table::AnswerTable;
 use pac_ports::Dice;
 use poll_log::{Question, Terms};
@@ -26,7 +26,7 @@ use utf16_text::Memory;
 /// Many runs over one table of answers and one stub.
 #[derive(Drop)]
 pub struct Core<R: Run> {
-    sessions: Vec<Session<R, R::Outcome>>,
+    pub(crate) sessions: Vec<Session<R, R::Outcome>>,
     table: AnswerTable,
     stub: Stub,
     // since the last tick or the last beat
@@ -46,10 +46,13 @@ fn take_event<R: Run, D: Dice, L: Ledger>(
     dice: &mut D,
     runs: &mut Steps<L>,
 ) -> Result<Vec<Question>, Memory>
-    ensures ok { IfOk result (λ sent. (task : Task) (turns : Turns) → Stands R.gives R.tree sessions.old table.old stub.old datagrams.old task turns →
-        Stepped (Stands R.gives R.tree sessions.new table.new stub.new datagrams.new task) task turns (event_of event.entry) (map octets_of sent.items)
+    ensures ok { IfOk result (λ sent. (task : Task) (turns : Turns) →
+        Stands R.gives R.tree sessions.old table.old stub.old datagrams.old task turns →
+        Stepped (Stands R.gives R.tree sessions.new table.new stub.new datagrams.new task)
+        task turns (event_of event.entry) (map octets_of sent.items)
         (D.told dice.old) (D.told dice.new) runs.old runs.new) }
-    ensures memory { OnErr result ((task : Task) (turns : Turns) → Stands R.gives R.tree sessions.old table.old stub.old datagrams.old task turns →
+    ensures memory { OnErr result ((task : Task) (turns : Turns) →
+        Stands R.gives R.tree sessions.old table.old stub.old datagrams.old task turns →
         StepFails task turns (event_of event.entry) (D.told dice.old) (D.told dice.new) runs.old runs.new) }
     ensures kept { OnOk result (map (λ s. s.run) sessions.new ≡ map (λ s. s.run) sessions.old) }
 {
@@ -85,7 +88,8 @@ impl<R: Run> Core<R> {
     ) -> Result<(Core<R>, Vec<Question>), Memory>
         requires { AreTerms terms }
         ensures ok { IfOk result (λ begun. (old : Outside) → old.dice ≡ D.told dice.old → old.runs ≡ runs.old →
-            Began (StandsFor R.gives R.tree begun.0.sessions.items begun.0.table begun.0.stub begun.0.datagrams begun.0.broken (task_of terms (run_jobs R.tree all.items)))
+            Began (StandsFor R.gives R.tree begun.0.sessions.items begun.0.table begun.0.stub begun.0.datagrams
+            begun.0.broken (task_of terms (run_jobs R.tree all.items)))
             (task_of terms (run_jobs R.tree all.items)) (map octets_of begun.1.items) old (D.told dice.new) runs.new) }
         ensures sessions { IfOk result (λ begun. map (λ s. s.run) begun.0.sessions.items ≡ all.items) }
         ensures memory { OnErr result ((more : List ℕ) × GaveAll (D.told dice.old) more (D.told dice.new)) }
@@ -116,7 +120,8 @@ impl<R: Run> Core<R> {
     pub fn state(&self, k: usize) -> SessionState
         requires { k < length self.now.sessions.items }
         ensures { (task : Task) (turns : Turns) (job : Job) →
-            StandsFor R.gives R.tree self.now.sessions.items self.now.table self.now.stub self.now.datagrams self.now.broken task turns →
+            StandsFor R.gives R.tree self.now.sessions.items self.now.table self.now.stub
+            self.now.datagrams self.now.broken task turns →
             IsState task.terms turns (get_or task.jobs k job) result }
     {
         without_outcome(&self.sessions[k].state)
@@ -127,12 +132,15 @@ impl<R: Run> Core<R> {
     pub fn outcome(&self, k: usize) -> Option<&R::Outcome>
         requires { k < length self.now.sessions.items }
         ensures none { result ≡ None → (task : Task) (turns : Turns) (job : Job) →
-            StandsFor R.gives R.tree self.now.sessions.items self.now.table self.now.stub self.now.datagrams self.now.broken task turns →
+            StandsFor R.gives R.tree self.now.sessions.items self.now.table self.now.stub
+            self.now.datagrams self.now.broken task turns →
             IsFinished task.terms turns (get_or task.jobs k job) → ⊥ }
         ensures some { IfSome result (λ outcome. (task : Task) (turns : Turns) (job : Job) (run : R) →
-            StandsFor R.gives R.tree self.now.sessions.items self.now.table self.now.stub self.now.datagrams self.now.broken task turns →
+            StandsFor R.gives R.tree self.now.sessions.items self.now.table self.now.stub
+            self.now.datagrams self.now.broken task turns →
             IsFinished task.terms turns (get_or task.jobs k job)
-            × IsOutcome R.gives (R.tree (get_or (map (λ s. s.run) self.now.sessions.items) k run)) (told task.terms turns) outcome.now) }
+            × IsOutcome R.gives (R.tree (get_or (map (λ s. s.run) self.now.sessions.items) k run))
+            (told task.terms turns) outcome.now) }
     {
         outcome_of(&self.sessions[k].state)
     }
@@ -141,7 +149,8 @@ impl<R: Run> Core<R> {
     pub fn runs_of(&self, k: usize) -> u64
         requires { k < length self.now.sessions.items }
         ensures { (task : Task) (turns : Turns) (job : Job) →
-            StandsFor R.gives R.tree self.now.sessions.items self.now.table self.now.stub self.now.datagrams self.now.broken task turns →
+            StandsFor R.gives R.tree self.now.sessions.items self.now.table self.now.stub
+            self.now.datagrams self.now.broken task turns →
             result ≡ runs_of task.terms turns (get_or task.jobs k job) }
     {
         self.sessions[k].runs
@@ -149,9 +158,15 @@ impl<R: Run> Core<R> {
 }
 
 impl<R: Run> Poller for Core<R> {
+    ghost use Rattle.std.specs.Prelude.{List};
     ghost use Rattle.session_core.specs.Stands.{StandsFor};
 
-    ghost stands = { λ core task turns. StandsFor R.gives R.tree core.sessions.items core.table core.stub core.datagrams core.broken task turns };
+    ghost stands = { λ core task turns.
+        StandsFor R.gives R.tree core.sessions.items core.table core.stub core.datagrams core.broken task turns };
+
+    ghost Kept = { List R };
+
+    ghost kept = { λ core. map (λ s. s.run) core.sessions.items };
 
     fn ended(&self) -> bool {
         !some_wait(&self.sessions)
@@ -165,14 +180,19 @@ impl<R: Run> Poller for Core<R> {
         runs: &mut Steps<L>,
     ) -> Result<Vec<Question>, Memory>
         ensures ok { IfOk result (λ sent. (task : Task) (turns : Turns) →
-            StandsFor R.gives R.tree self.old.sessions.items self.old.table self.old.stub self.old.datagrams self.old.broken task turns →
-            Stepped (λ after. StandsFor R.gives R.tree self.new.sessions.items self.new.table self.new.stub self.new.datagrams self.new.broken task after)
-            task turns (event_of event.entry) (map octets_of sent.items) (D.told dice.old) (D.told dice.new) runs.old runs.new) }
+            StandsFor R.gives R.tree self.old.sessions.items self.old.table self.old.stub
+            self.old.datagrams self.old.broken task turns →
+            Stepped (λ after. StandsFor R.gives R.tree self.new.sessions.items self.new.table self.new.stub
+            self.new.datagrams self.new.broken task after)
+            task turns (event_of event.entry) (map octets_of sent.items)
+            (D.told dice.old) (D.told dice.new) runs.old runs.new) }
         ensures memory { OnErr result ((task : Task) (turns : Turns) →
-            StandsFor R.gives R.tree self.old.sessions.items self.old.table self.old.stub self.old.datagrams self.old.broken task turns →
+            StandsFor R.gives R.tree self.old.sessions.items self.old.table self.old.stub
+            self.old.datagrams self.old.broken task turns →
             StepFails task turns (event_of event.entry) (D.told dice.old) (D.told dice.new) runs.old runs.new) }
         // Each session goes on with its run.
-        ensures kept { OnOk result (map (λ s. s.run) self.new.sessions.items ≡ map (λ s. s.run) self.old.sessions.items) }
+        ensures kept { OnOk result (
+            map (λ s. s.run) self.new.sessions.items ≡ map (λ s. s.run) self.old.sessions.items) }
         // Once memory ran out each later step says so, and changes nothing.
         ensures broken { OnErr result (self.new.broken ≡ true) }
         ensures after { self.old.broken ≡ true → IsErr result }

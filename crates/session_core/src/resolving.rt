@@ -8,7 +8,7 @@ ghost use Rattle.stub_poller.specs.Ready.{AreTerms};
 ghost use Rattle.session_core.specs.Beginning.{run_jobs};
 ghost use Rattle.session_core.specs.Resolved.{AllEnded, talk_of};
 
-use crate::{Core, Run};
+use crate::{Core, Run, Session};
 use pac_ports::{Dice, Link};
 use poll_loop::{Asking, Stop, poll};
 use std::alloc::Global;
@@ -16,6 +16,7 @@ use std::sync::ledger::Ledger;
 use step_counter::Steps;
 
 /// Runs all, asks for the names that they miss, and runs again what waited for an answer, until no session waits.
+/// The sessions come in the order of the runs.
 pub fn run_all<R: Run, N: Link, D: Dice, L: Ledger>(
     alloc: Global,
     all: Vec<R>,
@@ -23,18 +24,21 @@ pub fn run_all<R: Run, N: Link, D: Dice, L: Ledger>(
     link: &mut N,
     dice: &mut D,
     runs: &mut Steps<L>,
-) -> Result<Core<R>, Stop>
+) -> Result<Vec<Session<R, R::Outcome>>, Stop>
     requires { AreTerms asking.terms }
-    // The log is polled, and each session has ended by it.
-    ensures ok { IfOk result (λ core. (old : Outside) → old.link ≡ N.state link.old → old.dice ≡ D.told dice.old → old.runs ≡ runs.old →
+    // The log is polled, and the session of each run has ended by it.
+    ensures ok { IfOk result (λ sessions. (old : Outside) →
+        old.link ≡ N.state link.old → old.dice ≡ D.told dice.old → old.runs ≡ runs.old →
         (log : List Move) × Talked (talk_of asking (run_jobs R.tree all.items)) old whole log
         (record old { link = N.state link.new; dice = D.told dice.new; runs = runs.new })
-        × AllEnded R.gives R.tree (run_jobs R.tree all.items) asking.terms (turns_of log) core.sessions.items) }
+        × AllEnded R.gives R.tree all.items asking.terms (turns_of log) sessions.items) }
     // The link failed, and the log is cut short.
-    ensures fault { result ≡ Err Stop.Link → (old : Outside) → old.link ≡ N.state link.old → old.dice ≡ D.told dice.old → old.runs ≡ runs.old →
+    ensures fault { result ≡ Err Stop.Link → (old : Outside) →
+        old.link ≡ N.state link.old → old.dice ≡ D.told dice.old → old.runs ≡ runs.old →
         (log : List Move) × Talked (talk_of asking (run_jobs R.tree all.items)) old faulted log
         (record old { link = N.state link.new; dice = D.told dice.new; runs = runs.new }) }
-    ensures memory { result ≡ Err Stop.Memory → (old : Outside) → old.link ≡ N.state link.old → old.dice ≡ D.told dice.old → old.runs ≡ runs.old →
+    ensures memory { result ≡ Err Stop.Memory → (old : Outside) →
+        old.link ≡ N.state link.old → old.dice ≡ D.told dice.old → old.runs ≡ runs.old →
         (log : List Move) × Talked (talk_of asking (run_jobs R.tree all.items)) old unfinished log
         (record old { link = N.state link.new; dice = D.told dice.new; runs = runs.new }) }
 {
@@ -43,7 +47,7 @@ pub fn run_all<R: Run, N: Link, D: Dice, L: Ledger>(
     };
     let (mut core, first) = begun;
     match poll(alloc, &mut core, &first, asking, link, dice, runs) {
-        Ok(()) => Ok(core),
+        Ok(()) => Ok(core.sessions),
         Err(Stop::Link) => Err(Stop::Link),
         Err(Stop::Memory) => Err(Stop::Memory),
     }

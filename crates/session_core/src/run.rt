@@ -37,8 +37,8 @@ pub trait Run: Drop {
     /// The outcome is that of a run which ends so, and of whose alerts these are kept.
     ghost gives: { Self.Outcome → End → List (List ℕ) → Type 0 };
 
-    /// Runs once, from the beginning, over a host that was asked nothing yet. Missing comes exactly where the host lacks a
-    /// name of the whole run, with the first such name. One run is counted, whatever the answer.
+    /// Runs once, from the beginning, over a host that was asked nothing yet. Missing comes exactly where the host
+    /// lacks a name of the whole run, with the first such name. One run is counted, whatever the answer.
     fn run<H: Host, L: Ledger>(
         &self,
         alloc: Global,

@@ -28,10 +28,10 @@ pub enum SessionState {
 
 /// A run, what has become of it, and how often it was run.
 #[derive(Drop)]
-pub(crate) struct Session<R, O> {
-    pub(crate) run: R,
-    pub(crate) state: State<O>,
-    pub(crate) runs: u64,
+pub struct Session<R, O> {
+    pub run: R,
+    pub state: State<O>,
+    pub runs: u64,
 }
 
 /// Whether it waits for this name.

@@ -31,7 +31,8 @@ pub(crate) fn settle<R: Run, D: Dice, L: Ledger>(
     dice: &mut D,
     runs: &mut Steps<L>,
 ) -> Result<Settled<R::Outcome>, Memory>
-    ensures ok { IfOk result (λ settled. Settles R.gives (R.tree run.now) table.now stub.old stub.new (D.told dice.old) (D.told dice.new) settled) }
+    ensures ok { IfOk result (λ settled. Settles R.gives (R.tree run.now) table.now
+        stub.old stub.new (D.told dice.old) (D.told dice.new) settled) }
     ensures memory { OnErr result ((more : List ℕ) × GaveAll (D.told dice.old) more (D.told dice.new)) }
     ensures ran { runs.new ≡ runs.old + 1 }
 {

@@ -19,7 +19,7 @@ returns-in-Ok-poll g c o =
     let old : Outside = record o { link = g.N.Link.state c.args.link.now; dice = g.D.Dice.told c.args.dice.now; runs = c.args.runs.now } in
     let w : AreTerms c.args.asking.terms = record { waits = c.requires.waits; wait = c.requires.wait; tried = c.requires.tried; tries = c.requires.tries } in
     let p : IsQuestion q = subst IsQuestion c.in-Ok.ensures.question c.in-Ok.ensures.proper in
-    let polled = c.in-Ok-poll.ensures (talk_of c.args.asking.server c.args.asking.terms c.args.name) old refl refl refl (began c.args.asking.terms q _ _ old _ w p c.id-id.ensures c.in-Ok.ensures.one c.in-Ok.ensures.question) in (
+    let polled = c.in-Ok-poll.ensures.polled (talk_of c.args.asking.server c.args.asking.terms c.args.name) old refl refl refl (began c.args.asking.terms q _ _ old _ w p c.id-id.ensures c.in-Ok.ensures.one c.in-Ok.ensures.question) in (
       whole,
       polled.0,
       polled.1,
@@ -32,7 +32,7 @@ returns-in-Err-Link g c o =
     let old : Outside = record o { link = g.N.Link.state c.args.link.now; dice = g.D.Dice.told c.args.dice.now; runs = c.args.runs.now } in
     let w : AreTerms c.args.asking.terms = record { waits = c.requires.waits; wait = c.requires.wait; tried = c.requires.tried; tries = c.requires.tries } in
     let p : IsQuestion q = subst IsQuestion c.in-Ok.ensures.question c.in-Ok.ensures.proper in
-    let polled = rw c.in-Err-Link.field-0-is at (c.in-Err-Link.ensures (talk_of c.args.asking.server c.args.asking.terms c.args.name) old refl refl refl (began c.args.asking.terms q _ _ old _ w p c.id-id.ensures c.in-Ok.ensures.one c.in-Ok.ensures.question)) in
+    let polled = rw c.in-Err-Link.field-0-is at (c.in-Err-Link.ensures.polled (talk_of c.args.asking.server c.args.asking.terms c.args.name) old refl refl refl (began c.args.asking.terms q _ _ old _ w p c.id-id.ensures c.in-Ok.ensures.one c.in-Ok.ensures.question)) in
     (faulted, polled.0, polled.1, c.line.ensures)
 
 pub returns : goal.returns
@@ -41,5 +41,5 @@ returns g c o =
     let old : Outside = record o { link = g.N.Link.state c.args.link.now; dice = g.D.Dice.told c.args.dice.now; runs = c.args.runs.now } in
     let w : AreTerms c.args.asking.terms = record { waits = c.requires.waits; wait = c.requires.wait; tried = c.requires.tried; tries = c.requires.tries } in
     let p : IsQuestion q = subst IsQuestion c.in-Ok.ensures.question c.in-Ok.ensures.proper in
-    let polled = rw c.in-Err-Memory.field-0-is at (c.in-Err-Memory.ensures (talk_of c.args.asking.server c.args.asking.terms c.args.name) old refl refl refl (began c.args.asking.terms q _ _ old _ w p c.id-id.ensures c.in-Ok.ensures.one c.in-Ok.ensures.question)) in
+    let polled = rw c.in-Err-Memory.field-0-is at (c.in-Err-Memory.ensures.polled (talk_of c.args.asking.server c.args.asking.terms c.args.name) old refl refl refl (began c.args.asking.terms q _ _ old _ w p c.id-id.ensures c.in-Ok.ensures.one c.in-Ok.ensures.question)) in
     (unfinished, polled.0, polled.1, refl)

@@ -6,9 +6,13 @@ use Rattle.poll_loop.specs.Task.{Talk}
 use Rattle.poll_loop.specs.Turning.{Reached}
 use Rattle.poll_loop.proofs.looping.poll.Given as goal
 
--- so many events came
+-- so many events came, and the poller kept what it keeps
 abbrev pub invariant-loop-turn : goal.invariant-loop-turn
 invariant-loop-turn g l =
-    (talk : Talk) (old : Outside) → talk.server ≡ l.fn.asking.server → talk.task.terms ≡ l.fn.asking.terms → old.link ≡ g.N.Link.state l.fn.link
-    → Began (g.P.Poller.stands l.fn.poller talk.task) talk.task (map octets_of l.fn.first) old (g.D.Dice.told l.fn.dice) l.fn.runs
-    → Reached talk (g.P.Poller.stands l.poller talk.task) old (g.N.Link.state l.link) (g.D.Dice.told l.dice) l.runs l._turn
+    record {
+      reached :
+          (talk : Talk) (old : Outside) → talk.server ≡ l.fn.asking.server → talk.task.terms ≡ l.fn.asking.terms → old.link ≡ g.N.Link.state l.fn.link
+          → Began (g.P.Poller.stands l.fn.poller talk.task) talk.task (map octets_of l.fn.first) old (g.D.Dice.told l.fn.dice) l.fn.runs
+          → Reached talk (g.P.Poller.stands l.poller talk.task) old (g.N.Link.state l.link) (g.D.Dice.told l.dice) l.runs l._turn;
+      kept : g.P.Poller.kept l.poller ≡ g.P.Poller.kept l.fn.poller;
+    }

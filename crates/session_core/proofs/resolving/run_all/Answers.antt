@@ -1,4 +1,4 @@
-use Rattle.std.proofs.Common.{◌≡◌, ◌+◌, ◌≤◌, [], arith, length, refl, subst, sym}
+use Rattle.std.proofs.Common.{◌≡◌, ◌+◌, ◌≤◌, [], arith, length, refl, subst, sym, ◌∙◌}
 use Rattle.std.proofs.lemmas.List.{length-map}
 use Rattle.pac_plan.specs.Plan.{unfinished}
 use Rattle.pac_ports.specs.Link.{LinkState}
@@ -23,13 +23,13 @@ returns-in_default-clause-memory g c e old l d r =
 
 pub returns-in-Ok-poll-clause-ok : goal.returns-in-Ok-poll-clause-ok
 returns-in-Ok-poll-clause-ok g c old l d r =
-    let polled = c.in-Ok-poll.ensures (talk_of c.args.asking (run_jobs g.R.Run.tree c.args.all.items)) old refl refl l (rw c.deref.ensures.value (c.in-Ok.ensures.ok old d r)) in
-    (polled.0, polled.1, all_ended g.R.Run.gives g.R.Run.tree _ _ _ _ c.args.asking.terms (run_jobs g.R.Run.tree c.args.all.items) (turns_of polled.0) polled.2.stands polled.1.ends.polled.ended)
+    let polled = c.in-Ok-poll.ensures.polled (talk_of c.args.asking (run_jobs g.R.Run.tree c.args.all.items)) old refl refl l (rw c.deref.ensures.value (c.in-Ok.ensures.ok old d r)) in
+    (polled.0, polled.1, all_ended g.R.Run.gives g.R.Run.tree c.args.all.items _ _ _ _ c.args.asking.terms (run_jobs g.R.Run.tree c.args.all.items) (turns_of polled.0) (c.in-Ok-poll.ensures.kept ∙ c.in-Ok.ensures.sessions) polled.2.stands polled.1.ends.polled.ended)
 
 pub returns-in-Err-Link-clause-fault : goal.returns-in-Err-Link-clause-fault
 returns-in-Err-Link-clause-fault g c e old l d r =
-    rw c.in-Err-Link.field-0-is at (c.in-Err-Link.ensures (talk_of c.args.asking (run_jobs g.R.Run.tree c.args.all.items)) old refl refl l (rw c.deref.ensures.value (c.in-Ok.ensures.ok old d r)))
+    rw c.in-Err-Link.field-0-is at (c.in-Err-Link.ensures.polled (talk_of c.args.asking (run_jobs g.R.Run.tree c.args.all.items)) old refl refl l (rw c.deref.ensures.value (c.in-Ok.ensures.ok old d r)))
 
 pub returns-clause-memory : goal.returns-clause-memory
 returns-clause-memory g c e old l d r =
-    rw c.in-Err-Memory.field-0-is at (c.in-Err-Memory.ensures (talk_of c.args.asking (run_jobs g.R.Run.tree c.args.all.items)) old refl refl l (rw c.deref.ensures.value (c.in-Ok.ensures.ok old d r)))
+    rw c.in-Err-Memory.field-0-is at (c.in-Err-Memory.ensures.polled (talk_of c.args.asking (run_jobs g.R.Run.tree c.args.all.items)) old refl refl l (rw c.deref.ensures.value (c.in-Ok.ensures.ok old d r)))
