@@ -1,3 +1,5 @@
+pub mod Asking
+pub mod PacAsking
 pub mod OfState
 pub mod OfHanded
 pub mod OfObjects

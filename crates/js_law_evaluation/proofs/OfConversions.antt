@@ -1,5 +1,5 @@
--- Conversions and operators come to one end, where calls do.
-use Rattle.std.proofs.Common.{ℤ, pos, List, [], ◌∷◌, Bool, true, false, if◌then◌else◌, Result, Ok, Err}
+-- Conversions and operators have one end and ask for lookup names alone, where calls do.
+use Rattle.std.proofs.Common.{ℤ, pos, List, [], ◌∷◌, Bool, true, false, Result, Ok, Err}
 use Rattle.std.specs.Prelude.{ℕ, ◌+ℤ◌, ◌-ℤ◌, codes}
 use Rattle.js_tree.specs.declared.place.Place.{Place}
 use Rattle.js_tree.specs.declared.operators.BinaryOp.{BinaryOp}

@@ -1,4 +1,4 @@
--- Entries come to one end, where bodies and calls do.
+-- Entries have one end and ask for lookup names alone, where bodies and calls do.
 use Rattle.std.proofs.Common.{ℕ, suc, pos, List, [], ◌∷◌, Bool, true, false, Option, Some, None}
 use Rattle.std.specs.Prelude.{length, slice_get, codes}
 use Rattle.std.specs.Fmt.{decimal}
@@ -18,13 +18,12 @@ use Rattle.heap_values.specs.declared.built_in.BuiltIn.TheVariants as built_in
 use Rattle.heap_values.specs.declared.value.Value.{Value}
 use Rattle.heap_values.specs.declared.value.Value.TheVariants as value
 use Rattle.object_heap.specs.Heap.{object_at, kind_in, found_of}
-use Rattle.run_trees.proofs.Ending.{one_end-returning}
 use Rattle.js_evaluation.specs.State.{Does, built_in_object, global_object}
 use Rattle.js_evaluation.specs.Objects.{Context, arity_of, global_id}
 use Rattle.js_evaluation.specs.Natives.{native_of}
 use Rattle.js_evaluation.specs.Conversions.{Call}
 use Rattle.js_evaluation.specs.Entries as def
-use Rattle.js_law_evaluation.proofs.OfState.{Ends, gives, reads, ◌onto◌, ◌then◌, either, make-ends, make_scope-ends, define-ends, write_slot-ends, throw_type_error-ends}
+use Rattle.js_law_evaluation.proofs.OfState.{Ends, gives, reads, ◌onto◌, ◌then◌, either, returns, make-ends, make_scope-ends, define-ends, write_slot-ends, throw_type_error-ends}
 use Rattle.js_law_evaluation.proofs.OfObjects.{get-ends, write_name-ends, closure-ends}
 use Rattle.js_law_evaluation.proofs.OfConversions.{CallsEnd}
 use Rattle.js_law_evaluation.proofs.OfNatives.{native_outcome-ends}
@@ -77,7 +76,7 @@ module _ (functions : List FunctionTree) where
         let cx : Context = record { scope = scope; this = this } in
         parameters_from-ends cx p parameters vs then functions_from-ends cx p ss
         then arguments_if-ends (def.has_own_arguments parameters ss) scope p names vs
-        then one_end-returning value.Undefined (body cx ss) (body-ends cx ss)
+        then returns value.Undefined (body cx ss) (body-ends cx ss)
 
     entered-ends : (around : ScopeId) (this : Value) (vs : List Value) (p : Place) (f : Option FunctionTree)
         → Ends (def.entered functions body around this vs p f)

@@ -1,4 +1,4 @@
--- Each part, at each depth, and each run come to one end.
+-- Each part, at each depth, and each run have one end and ask for lookup names alone.
 use Rattle.std.proofs.Common.{ℕ, zero, suc, List, [], ◌∷◌, Option, Some, None}
 use Rattle.std.specs.Prelude.{codes}
 use Rattle.js_tree.specs.Tree.{FunctionTree, Statements}
@@ -10,7 +10,8 @@ use Rattle.js_evaluation.specs.State.{Does, global_object}
 use Rattle.js_evaluation.specs.Objects.{Context, global_id}
 use Rattle.js_evaluation.specs.Expressions.{reference, write}
 use Rattle.js_evaluation.specs.Evaluation as def
-use Rattle.js_evaluation.specs.Evaluation.{Part, expression_part, target_part, statement_part, call_part, construct_part, load_part, part_place, node, evaluation, Entry, entry_of, called_for, script_run, outer_scope, outside, most_open}
+use Rattle.js_evaluation.specs.Evaluation.{Part, expression_part, target_part, statement_part, call_part, construct_part, load_part, part_place, node, evaluation, Entry, entry_of, called_for, script_run, first_state, outer_scope, outside, most_open}
+use Rattle.js_law_evaluation.specs.Laws.{AsksLookupNames, RunsAskLookupNames}
 use Rattle.js_law_evaluation.proofs.OfState.{Ends, fails, reads, ◌then◌, charges-ends, test_text-ends}
 use Rattle.js_law_evaluation.proofs.OfExpressions.{write-ends, target_node-ends, reference-ends, expression_node-ends}
 use Rattle.js_law_evaluation.proofs.OfStatements.{statements_from-ends, statement_node-ends}
@@ -54,3 +55,7 @@ pub runs-end : (ss : Statements) (functions : List FunctionTree) (entry : Entry)
 runs-end ss functions entry =
     evaluation-ends functions most_open (load_part outer_scope ss)
     then reads (λ s. called_for-ends functions entry (entry_of s.heap (found_of s.heap global_id (codes "FindProxyForURL"))))
+
+pub runs-ask : RunsAskLookupNames
+unfolding AsksLookupNames
+runs-ask ss functions entry = (runs-end ss functions entry).asks _ (λ result state. tt) (first_state entry)

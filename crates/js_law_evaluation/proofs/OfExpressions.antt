@@ -1,4 +1,4 @@
--- Expressions come to one end, where the parts that they visit do.
+-- Expressions have one end and ask for lookup names alone, where the parts that they visit do.
 use Rattle.std.proofs.Common.{ℕ, ◌+◌, pos, List, [], ◌∷◌, ◌++◌, Bool, true, false, if◌then◌else◌, Option, Some, None}
 use Rattle.std.specs.Prelude.{neg_ℤ, ◌-ℤ◌, not, slice_get, codes}
 use Rattle.js_tree.specs.declared.place.Place.{Place}

@@ -1,4 +1,4 @@
--- What is given to a call comes to one end.
+-- What is given to a call has one end and asks for lookup names alone.
 use Rattle.std.proofs.Common.{ℕ, List}
 use Rattle.js_tree.specs.declared.place.Place.{Place}
 use Rattle.heap_values.specs.declared.value.Value.{Value}

@@ -1,4 +1,4 @@
--- Natives come to one end, where calls do.
+-- Natives have one end and ask for lookup names alone, where calls do.
 use Rattle.std.proofs.Common.{ℕ, List, [], true, false, Option, Some, None}
 use Rattle.std.specs.Prelude.{codes}
 use Rattle.js_tree.specs.declared.place.Place.{Place}

@@ -1,4 +1,4 @@
--- Properties, names and functions come to one end.
+-- Properties, names and functions have one end and ask for lookup names alone.
 use Rattle.std.proofs.Common.{ℕ, pos, List, ◌++◌, Bool, true, false, Option, Some, None, Result, Ok, Err}
 use Rattle.std.specs.Prelude.{codes}
 use Rattle.js_tree.specs.declared.place.Place.{Place}

@@ -1,4 +1,4 @@
--- The functions of the proxy format come to one end, where calls do.
+-- The functions of the proxy format have one end and ask for lookup names alone, where calls do.
 use Rattle.std.proofs.Common.{◌≡◌, ℕ, refl, ◌∙◌, List, [], ◌∷◌, ◌++◌, Option, Some, None}
 use Rattle.std.specs.Prelude.{zero, suc, length}
 use Rattle.js_tree.specs.declared.place.Place.{Place}
@@ -9,10 +9,12 @@ use Rattle.run_trees.specs.OneEnd.{PartEnd, Misses, followed, HasOneEnd}
 use Rattle.pac_functions.specs.declared.call.PacFunction.{PacFunction}
 use Rattle.pac_functions.specs.Addresses.{PacEnd, Gives, AsksTooMany}
 use Rattle.pac_functions.specs.Call.{pac_call}
-use Rattle.js_evaluation.specs.Conversions.{Call, to_primitive, text_methods}
+use Rattle.js_evaluation.specs.Conversions.{Call, text_methods}
 use Rattle.js_evaluation.specs.Handed.{argument}
 use Rattle.js_evaluation.specs.PacNatives.{named, pac_walk, followed_by, pac_end, pac_work, pac_done, converted_from, pac_value_by, pac_value}
 use Rattle.js_evaluation.proofs.Following.{walked_on, walks_on}
+use Rattle.js_law_evaluation.proofs.Asking.{asking-followed_by}
+use Rattle.js_law_evaluation.proofs.PacAsking.{call-asks}
 use Rattle.js_law_evaluation.proofs.OfState.{Ends, fails, ◌onto◌, ◌then◌, charges-ends}
 use Rattle.js_law_evaluation.proofs.OfHanded.{given-ends}
 use Rattle.js_law_evaluation.proofs.OfConversions.{CallsEnd, to_primitive-ends}
@@ -48,7 +50,13 @@ pac_end-ends place AsksTooMany = fails _ place
 
 pac_work-ends : (f : PacFunction) (vs : List Value) (place : Place) → Ends (pac_work f vs place)
 pac_work-ends f vs place =
-    one_end-followed_by (pac_end place) (pac_end-ends place) (λ state. pac_call f vs state.now state.settings.my_ip)
+    record {
+      one_end = one_end-followed_by (pac_end place) (λ end. (pac_end-ends place end).one_end)
+          (λ state. pac_call f vs state.now state.settings.my_ip);
+      asks = λ after rest state. asking-followed_by (pac_call f vs state.now state.settings.my_ip)
+          (λ end. pac_end place end after state) (call-asks f vs state.now state.settings.my_ip)
+          (λ end. (pac_end-ends place end).asks after rest state);
+    }
 
 pac_done-ends : (f : PacFunction) (vs : List Value) (place : Place) → Ends (pac_done f vs place)
 pac_done-ends f vs place = charges-ends (pac_walk f vs) place then pac_work-ends f vs place

@@ -1,4 +1,4 @@
--- Parts of evaluation that have one end, and the words of its state.
+-- Parts of evaluation that have one end and ask for lookup names alone, and the words of its state.
 use Rattle.std.proofs.Common.{ℕ, List, Bool, true, false, if◌then◌else◌, Option, Some, Result, Ok, Err}
 use Rattle.std.specs.Prelude.{◌-◌, length, nat_lt, codes}
 use Rattle.js_tree.specs.declared.place.Place.{Place}
@@ -13,46 +13,102 @@ use Rattle.heap_values.specs.declared.value.Value.{Value}
 use Rattle.heap_values.specs.declared.value.Value.TheVariants.{Text, Object}
 use Rattle.heap_values.specs.Views.{HeapView}
 use Rattle.object_heap.specs.Heap.{made_of, scope_made_of, text_spent_of}
-use Rattle.run_trees.specs.Runs.{pure, abrupt, halt, reading, changing, ◌>>=◌, ◌>>◌}
+use Rattle.run_trees.specs.Runs.{pure, abrupt, halt, reading, changing, ◌>>=◌, ◌>>◌, with_last, catching, breaking, turning, returning}
 use Rattle.run_trees.specs.OneEnd.{HasOneEnd}
-use Rattle.run_trees.proofs.Ending.{one_end-ends, one_end-halt, one_end-next, one_end-reading, one_end-changing, one_end-if}
+use Rattle.run_trees.proofs.Ending.{one_end-ends, one_end-halt, one_end-next, one_end-with_last, one_end-reading, one_end-changing, one_end-if, one_end-catching, one_end-breaking, one_end-turning, one_end-returning}
 use Rattle.js_evaluation.specs.declared.fault.FaultCode.{FaultCode}
 use Rattle.js_evaluation.specs.declared.fault.FaultCode.TheVariants as code
+use Rattle.js_evaluation.specs.declared.thrown.Thrown.{Thrown}
 use Rattle.js_evaluation.specs.State.{RunState, RunEnd, Stop, Does, fault, charges, with_heap, made, changed, make, make_scope, define, write_slot, spend, test_text, built_in_object, set_base, the_base, throw, throw_error, throw_type_error}
+use Rattle.js_law_evaluation.proofs.Asking.{KeepsToLookupNames, asking-ends, asking-halt, asking-next, asking-with_last, asking-reading, asking-changing, asking-if, asking-catching, asking-breaking, asking-turning, asking-returning}
 
 -- ---- parts in general
 
-abbrev pub Ends : {A : Type 0} → Does A → Type 0
-Ends part = HasOneEnd part
+-- A part has one end, and asks for lookup names alone where what comes after it does.
+pub record Ends {A : Type 0} (part : Does A) : Type 0 where
+  pub one_end : HasOneEnd part
+  pub asks : KeepsToLookupNames part
 
 pub gives : {A : Type 0} (value : A) → Ends (pure value)
-gives value = one_end-ends (Ok value)
+gives value = record { one_end = one_end-ends (Ok value); asks = asking-ends (Ok value) }
 
 pub stops : {A : Type 0} (stop : Stop) → Ends {A = A} (abrupt stop)
-stops stop = one_end-ends (Err stop)
+stops stop = record { one_end = one_end-ends (Err stop); asks = asking-ends (Err stop) }
 
 pub halts : {A : Type 0} (end : RunEnd) → Ends {A = A} (halt end)
-halts end = one_end-halt end
+halts end = record { one_end = one_end-halt end; asks = asking-halt end }
 
 pub fails : {A : Type 0} (code : FaultCode) (place : Place) → Ends {A = A} (fault code place)
-fails code place = one_end-halt _
+fails code place = halts _
 
 pub changes : (change : RunState → RunState) → Ends (changing change)
-changes change = one_end-changing change
+changes change = record { one_end = one_end-changing change; asks = asking-changing change }
 
 pub reads : {A : Type 0} {part : RunState → Does A} → ((state : RunState) → Ends (part state)) → Ends (reading part)
-reads {part = part} has = one_end-reading part has
+reads {part = part} has =
+    record {
+      one_end = one_end-reading part (λ state. (has state).one_end);
+      asks = asking-reading part (λ state. (has state).asks);
+    }
 
 infixl 10 ◌onto◌
 pub ◌onto◌ : {A B : Type 0} {part : Does A} {next : A → Does B} → Ends part → ((value : A) → Ends (next value)) → Ends (part >>= next)
-◌onto◌ {part = part} {next = next} before has = one_end-next part next before has
+◌onto◌ {part = part} {next = next} before has =
+    record {
+      one_end = one_end-next part next before.one_end (λ value. (has value).one_end);
+      asks = asking-next part next before.asks (λ value. (has value).asks);
+    }
 
 infixl 10 ◌then◌
 pub ◌then◌ : {A B : Type 0} {part : Does A} {next : Does B} → Ends part → Ends next → Ends (part >> next)
-◌then◌ {part = part} {next = next} before has = one_end-next part (λ _. next) before (λ _. has)
+before then has = before onto (λ _. has)
 
 pub either : {A : Type 0} (b : Bool) {one other : Does A} → Ends one → Ends other → Ends (if b then one else other)
-either b {one = one} {other = other} has has_other = one_end-if b one other has has_other
+either b {one = one} {other = other} has has_other =
+    record {
+      one_end = one_end-if b one other has.one_end has_other.one_end;
+      asks = asking-if b one other has.asks has_other.asks;
+    }
+
+-- ---- parts that take an abrupt end
+
+pub ends_with_last : {A B : Type 0} (part : Does A) (last : Does B) → Ends part → Ends last → Ends (with_last part last)
+ends_with_last part last before has =
+    record {
+      one_end = one_end-with_last part last before.one_end has.one_end;
+      asks = asking-with_last part last before.asks has.asks;
+    }
+
+pub catches : {A : Type 0} (part : Does A) (handler : Thrown → Does A) → Ends part → ((thrown : Thrown) → Ends (handler thrown))
+    → Ends (catching part handler)
+catches part handler before has =
+    record {
+      one_end = one_end-catching part handler before.one_end (λ thrown. (has thrown).one_end);
+      asks = asking-catching part handler before.asks (λ thrown. (has thrown).asks);
+    }
+
+pub breaks : {A : Type 0} (nothing : A) (is_here : Unit {0} → Bool) (part : Does A) → Ends part
+    → Ends (breaking nothing is_here part)
+breaks nothing is_here part before =
+    record {
+      one_end = one_end-breaking nothing is_here part before.one_end;
+      asks = asking-breaking nothing is_here part before.asks;
+    }
+
+pub turns : {A : Type 0} (nothing : A) (is_here : Unit {0} → Bool) (body next : Does A) → Ends body → Ends next
+    → Ends (turning nothing is_here body next)
+turns nothing is_here body next before has =
+    record {
+      one_end = one_end-turning nothing is_here body next before.one_end has.one_end;
+      asks = asking-turning nothing is_here body next before.asks has.asks;
+    }
+
+pub returns : (nothing : Value) (body : Does Value) → Ends body → Ends (returning nothing body)
+returns nothing body before =
+    record {
+      one_end = one_end-returning nothing body before.one_end;
+      asks = asking-returning nothing body before.asks;
+    }
 
 -- ---- the words of the state
 

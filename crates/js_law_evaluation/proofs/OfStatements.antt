@@ -1,4 +1,4 @@
--- Statements come to one end, where the parts that they visit and execute do.
+-- Statements have one end and ask for lookup names alone, where the parts that they visit and execute do.
 use Rattle.std.proofs.Common.{ℕ, zero, suc, List, [], ◌∷◌, true}
 use Rattle.std.specs.Prelude.{length, map}
 use Rattle.std.specs.Fmt.{decimal}
@@ -12,14 +12,13 @@ use Rattle.object_heap.specs.Heap.{found_of, keys_of}
 use Rattle.js_convert.specs.Numeric.{truth_of}
 use Rattle.js_convert.specs.Operators.{strictly_equal}
 use Rattle.run_trees.specs.Runs.{turning}
-use Rattle.run_trees.proofs.Ending.{one_end-turning, one_end-breaking, one_end-catching, one_end-with_last}
 use Rattle.js_evaluation.specs.declared.thrown.Thrown.{Thrown}
 use Rattle.js_evaluation.specs.State.{Does}
 use Rattle.js_evaluation.specs.Objects.{Context}
 use Rattle.js_evaluation.specs.Expressions.{Reference}
 use Rattle.js_evaluation.specs.Statements as def
 use Rattle.js_evaluation.specs.Statements.{nothing, is_here}
-use Rattle.js_law_evaluation.proofs.OfState.{Ends, gives, stops, fails, reads, ◌onto◌, ◌then◌, either, charges-ends, make_scope-ends, write_slot-ends, spend-ends, throw-ends}
+use Rattle.js_law_evaluation.proofs.OfState.{Ends, gives, stops, fails, reads, ◌onto◌, ◌then◌, either, ends_with_last, catches, breaks, turns, charges-ends, make_scope-ends, write_slot-ends, spend-ends, throw-ends}
 use Rattle.js_law_evaluation.proofs.OfObjects.{write_name-ends}
 use Rattle.js_law_evaluation.proofs.OfExpressions.{VisitsEnd}
 
@@ -27,7 +26,7 @@ nothing-ends : Ends nothing
 nothing-ends = gives value.Undefined
 
 turns-ends : {body next : Does Value} → Ends body → Ends next → Ends (turning value.Undefined is_here body next)
-turns-ends {body} {next} has has_next = one_end-turning value.Undefined is_here body next has has_next
+turns-ends {body} {next} has has_next = turns value.Undefined is_here body next has has_next
 
 module _ (visit : Context → ExpressionTree → Does Value) (execute : Context → StatementTree → Does Value)
     (reference : Context → ExpressionTree → Does Reference) (write : Context → Reference → Value → Place → Does (Unit {0}))
@@ -162,7 +161,7 @@ module _ (visit : Context → ExpressionTree → Does Value) (execute : Context 
       (statements_from-ends cx ss then clauses_from-ends cx rest) (from_match-ends cx v all rest))
 
   switched-ends : (cx : Context) (e : ExpressionTree) (cs : Clauses) → Ends (def.switched visit execute reference write cx e cs)
-  switched-ends cx e cs = visit-ends cx e onto (λ v. one_end-breaking value.Undefined is_here _ (from_match-ends cx v cs cs))
+  switched-ends cx e cs = visit-ends cx e onto (λ v. breaks value.Undefined is_here _ (from_match-ends cx v cs cs))
 
   -- ---- `try`
 
@@ -177,13 +176,13 @@ module _ (visit : Context → ExpressionTree → Does Value) (execute : Context 
       → Ends (λ after. execute cx block (def.after_block visit execute reference write cx p handler after))
   guarded-ends cx p block no_catch = execute-ends cx block
   guarded-ends cx p block (a_catch x inner) =
-      one_end-catching (execute cx block) (def.handled visit execute reference write cx p inner) (execute-ends cx block) (handled-ends cx p inner)
+      catches (execute cx block) (def.handled visit execute reference write cx p inner) (execute-ends cx block) (handled-ends cx p inner)
 
   tried-ends : (cx : Context) (p : Place) (block : StatementTree) (handler : CatchTree) (last : OptionalStatement)
       → Ends (def.tried visit execute reference write cx p block handler last)
   tried-ends cx p block handler omitted = guarded-ends cx p block handler
   tried-ends cx p block handler (given last) =
-      one_end-with_last (λ after. execute cx block (def.after_block visit execute reference write cx p handler after)) (execute cx last)
+      ends_with_last (λ after. execute cx block (def.after_block visit execute reference write cx p handler after)) (execute cx last)
       (guarded-ends cx p block handler) (execute-ends cx last)
 
   -- ---- all of them

@@ -1,8 +1,9 @@
-//! The law that evaluation comes to one end: each part of a script, at each depth, and each run.
+//! Two laws of evaluation: each part of a script, at each depth, and each run come to one end; and a run asks its host
+//! for lookup names alone.
 //!
-//! `specs/Laws.antt` states it on the definition of evaluation in js_evaluation. The crate has no code that runs.
+//! `specs/Laws.antt` states them on the definition of evaluation in js_evaluation. The crate has no code that runs.
 #![tactic(auto)]
 
 mod laws;
 
-pub use laws::{evaluation_has_one_end, runs_have_one_end};
+pub use laws::{evaluation_has_one_end, runs_ask_lookup_names, runs_have_one_end};
