@@ -1,1 +1,5 @@
+pub mod Batches
+pub mod Cuts
+mod Examples
+pub mod Moments
 pub mod Texts

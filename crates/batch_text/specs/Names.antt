@@ -1,5 +1,5 @@
 -- A file of names: in each line a lookup name, and its address or `-`.
-use Rattle.std.specs.Prelude.{◌≡◌, ℕ, ◌+◌, List, [], ◌∷◌, if◌then◌else◌, Option, Some, None, is_some, option_map, Result, Ok, Err, bytes_eq, codes}
+use Rattle.std.specs.Prelude.{◌≡◌, ℕ, ◌+◌, List, [], ◌∷◌, if◌then◌else◌, Option, Some, is_some, option_map, Result, Ok, Err, bytes_eq, codes}
 use Rattle.std.specs.FinMap as map
 use Rattle.std.specs.Str.{is_utf8}
 use Rattle.pac_names.specs.declared.answer.Answer.{Answer}

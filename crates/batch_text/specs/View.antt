@@ -52,6 +52,10 @@ pub record Seen : Type 0 where
   pub url : List ℕ
   pub host : List ℕ
 
+-- the same, as the code has it
+abbrev pub seen_of : View → Seen
+seen_of view = record { url = view.url; host = view.host }
+
 -- what a script sees of a URL, unless it isn't asked about such
 abbrev pub seen_by_scripts : Parts → Option Seen
 seen_by_scripts url =
@@ -68,6 +72,6 @@ abbrev pub view_of : List ℕ → Option Seen
 view_of text = if nat_lt 8192 (length text) then None else seen_if_parsed (parse_url None text)
 
 abbrev pub Views : Result View ViewAnswer → Option Seen → Type 0
-Views (Ok view) seen = seen ≡ Some (record { url = view.url; host = view.host })
+Views (Ok view) seen = seen ≡ Some (seen_of view)
 Views (Err BadUrl) seen = seen ≡ None
 Views (Err Memory) seen = Unit {0}

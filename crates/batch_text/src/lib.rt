@@ -1,14 +1,16 @@
-//! Reads what stands beside the script: URLs, as a script sees them, and files of names.
+//! Reads what stands beside the script: URLs, as a script sees them, batches of them, and files of names.
 //!
 //! What a URL is, is as the URL Standard (sections 4.4 and 4.5) has it. It stands on tables of answers, names and
 //! texts, and on `url`.
 #![tactic(auto)]
 
+mod batch;
 mod lines;
 mod names;
 mod seen;
 mod urls;
 
+pub use batch::{Batch, BatchAnswer, BatchKind, BatchLine, read_batch};
 pub use names::{NamesAnswer, NamesKind, read_names};
 pub use seen::{View, ViewAnswer};
 pub use urls::view;

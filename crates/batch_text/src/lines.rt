@@ -1,6 +1,7 @@
 // The lines of a batch and of a file of names.
-ghost use Rattle.std.specs.Prelude.{◌≡◌, ◌≤◌, length, reverse};
+ghost use Rattle.std.specs.Prelude.{◌≡◌, ◌≤◌, IfSome, is_some, length, reverse};
 ghost use Rattle.std.specs.List.{list_all, prefix_len};
+ghost use Rattle.std.specs.Str.{is_utf8};
 ghost use Rattle.batch_text.specs.Lines.{
   is_blank,
   is_comment,
@@ -12,11 +13,21 @@ ghost use Rattle.batch_text.specs.Lines.{
   without_indent,
 };
 
+use bstr::ByteSlice;
+
+/// The line as text, if it is UTF-8.
+pub(crate) fn text_of(line: &[u8]) -> Option<&str>
+    ensures told { is_some result ≡ is_utf8 line.now }
+    ensures same { IfSome result (λ text. text.now ≡ line.now) }
+{
+    line.to_str().ok()
+}
+
 /// Whether a line says nothing: it is blank, or a comment.
-pub(crate) fn says_nothing(line: &[u8]) -> bool
+pub(crate) fn says_nothing(line: &str) -> bool
     ensures { result ≡ says_nothing line.now }
 {
-    is_comment(line) || are_blanks(line)
+    is_comment(line.as_bytes()) || are_blanks(line.as_bytes())
 }
 
 fn is_comment(line: &[u8]) -> bool
@@ -35,17 +46,17 @@ fn are_blanks(line: &[u8]) -> bool
 }
 
 /// What stands before the first blank.
-pub(crate) fn word(line: &[u8]) -> &[u8]
+pub(crate) fn word(line: &str) -> &str
     ensures { result.now ≡ word_of line.now }
 {
-    &line[..word_length(line)]
+    &line[..word_length(line.as_bytes())]
 }
 
 /// What stands behind the first blanks, without the blanks at its end.
-pub(crate) fn rest(line: &[u8]) -> &[u8]
+pub(crate) fn rest(line: &str) -> &str
     ensures { result.now ≡ rest_of line.now }
 {
-    without_end(without_indent(&line[word_length(line)..]))
+    without_end(without_indent(&line[word_length(line.as_bytes())..]))
 }
 
 fn word_length(line: &[u8]) -> usize
@@ -55,10 +66,10 @@ fn word_length(line: &[u8]) -> usize
     line.iter().take_while(|byte| !is_blank(**byte)).count()
 }
 
-fn without_indent(bytes: &[u8]) -> &[u8]
-    ensures { result.now ≡ without_indent bytes.now }
+fn without_indent(text: &str) -> &str
+    ensures { result.now ≡ without_indent text.now }
 {
-    &bytes[blanks_in_front(bytes)..]
+    &text[blanks_in_front(text.as_bytes())..]
 }
 
 fn blanks_in_front(bytes: &[u8]) -> usize
@@ -68,10 +79,10 @@ fn blanks_in_front(bytes: &[u8]) -> usize
     bytes.iter().take_while(|byte| is_blank(**byte)).count()
 }
 
-fn without_end(bytes: &[u8]) -> &[u8]
-    ensures { result.now ≡ without_end bytes.now }
+fn without_end(text: &str) -> &str
+    ensures { result.now ≡ without_end text.now }
 {
-    &bytes[..bytes.len() - blanks_behind(bytes)]
+    &text[..text.len() - blanks_behind(text.as_bytes())]
 }
 
 fn blanks_behind(bytes: &[u8]) -> usize

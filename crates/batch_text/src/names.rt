@@ -1,11 +1,10 @@
 // Files of names.
 ghost use Rattle.std.specs.Prelude.{◌≡◌, ◌≤◌, IfOk, length};
-ghost use Rattle.std.specs.Str.{is_utf8};
 ghost use Rattle.pac_names.specs.Names.{lookup_name_of};
 ghost use Rattle.batch_text.specs.Names.{ReadsNames, names_in, answer_of, line_of, text_line};
 ghost use Rattle.batch_text.specs.Entering.{Enters, said};
 
-use crate::lines::{rest, says_nothing, word};
+use crate::lines::{rest, says_nothing, text_of, word};
 use answer_table::AnswerTable;
 use bstr::ByteSlice;
 use pac_names::{Answer, LookupName, quad};
@@ -88,38 +87,31 @@ fn enter(
 fn line_of(alloc: Global, line: &[u8]) -> Result<Line, Memory>
     ensures { IfOk result (λ l. said l ≡ line_of line.now) }
 {
-    if is_text(line) {
-        text_line(alloc, line)
-    } else {
-        Ok(Line::Bad)
+    match text_of(line) {
+        Some(text) => text_line(alloc, text),
+        None => Ok(Line::Bad),
     }
 }
 
-fn is_text(line: &[u8]) -> bool
-    ensures { result ≡ is_utf8 line.now }
-{
-    line.is_utf8()
-}
-
-fn text_line(alloc: Global, line: &[u8]) -> Result<Line, Memory>
+fn text_line(alloc: Global, line: &str) -> Result<Line, Memory>
     ensures { IfOk result (λ l. said l ≡ text_line line.now) }
 {
     if says_nothing(line) {
         return Ok(Line::Nothing);
     }
     let answer = answer_of(alloc, rest(line))?;
-    match (LookupName::from_bytes(word(line)), answer) {
+    match (LookupName::from_bytes(word(line).as_bytes()), answer) {
         (Some(name), Some(answer)) => Ok(Line::Entry(name, answer)),
         _ => Ok(Line::Bad),
     }
 }
 
-fn answer_of(alloc: Global, rest: &[u8]) -> Result<Option<Answer>, Memory>
+fn answer_of(alloc: Global, rest: &str) -> Result<Option<Answer>, Memory>
     ensures { IfOk result (λ answer. answer ≡ answer_of rest.now) }
 {
-    if rest == b"-".as_slice() {
+    if rest == "-" {
         return Ok(Some(Answer::NoAddress));
     }
-    let text = Text::from_latin_1(alloc, rest)?;
+    let text = Text::from_latin_1(alloc, rest.as_bytes())?;
     Ok(quad(&text).map(Answer::Address))
 }

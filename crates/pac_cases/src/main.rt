@@ -1,11 +1,12 @@
 //! What scripts are handed: shell expressions, ranges of weekdays, dates and times, the functions over a host, what a
-//! script sees of a URL, and files of names. A table of calls with their answers.
+//! script sees of a URL, files of names and batches. A table of calls with their answers.
 //!
 //! The cases are those of the page on the Netscape Navigator Proxy Auto-Config format, those of the URL Standard, and
 //! those in which docs/ decides what they leave open. It reads them from its input, and stands on pac_match,
 //! pac_calendar, pac_functions and batch_text.
 #![tactic(auto)]
 
+mod batches;
 mod clocks;
 mod functions;
 mod names;
@@ -34,6 +35,8 @@ fn answer(alloc: Global, part: &str, fields: &[&str]) -> Result<String> {
         "calls after other names" => functions::called_late(alloc, fields),
         "files of names" => names::told(alloc, fields),
         "long files of names" => names::told_behind(alloc, fields),
+        "batches" => batches::asked(alloc, fields),
+        "long batches" => batches::counted(alloc, fields),
         "urls" => urls::seen(alloc, fields),
         "long urls" => urls::length(alloc, fields),
         _ => bail!("no part {part}"),
