@@ -87,6 +87,9 @@ def check_bad_input(failures):
         empty = os.path.join(folder, "empty.pac")
         with open(empty, "wb"):
             pass
+        batch = os.path.join(folder, "batch")
+        with open(batch, "wb") as file:
+            file.write(b"# URLs\nget http://a.example/\nfetch http://b.example/\n")
         absent = os.path.join(folder, "absent.pac")
         # the words, what is written, the status
         cases = [
@@ -99,6 +102,11 @@ def check_bad_input(failures):
             (["map", "examples/direct.pac", url, "--names", absent], b"fault read names\n", 3),
             (["map", "examples/direct.pac", url, "--names", long], b"refused names TooLong\n", 4),
             (["map", "examples/direct.pac", url, "--names", empty], contents("examples/direct.report"), 0),
+            (["resolve", "examples/direct.pac", "--batch", absent], b"fault read batch\n", 3),
+            (["resolve", "examples/direct.pac", "--batch", long], b"refused batch TooLong\n", 4),
+            (["resolve", "examples/direct.pac", "--batch", batch], b"refused batch 3 BadLine\n", 4),
+            (["resolve", "examples/direct.pac", "--batch", empty], b"", 0),
+            (["resolve", "examples/direct.pac", url, "--batch", empty], USAGE, 2),
             (["check", empty], b"", 0),
         ]
         for words, text, status in cases:

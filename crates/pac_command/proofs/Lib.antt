@@ -1,3 +1,3 @@
 pub mod Lengths
 pub mod Programs
-pub mod Outcomes
+pub mod Stepping

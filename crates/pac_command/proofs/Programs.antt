@@ -3,8 +3,7 @@ use Rattle.std.proofs.Common.{◌≡◌, ℕ, ℤ, inl, inr, Option, Some, None,
 use Rattle.pac_ports.specs.Clock.{ClockTold}
 use Rattle.pac_plan.specs.Plan.{Outside, Output, say, at_once, timed}
 use Rattle.pac_plan.specs.Follows.{IsUnlessMemory}
-use Rattle.pac_plan.proofs.GivesUp as plans
-use Rattle.pac_ask.specs.Talks.{talks}
+use Rattle.poll_loop.specs.declared.looping.Asking.{Asking}
 use Rattle.pac_words.specs.Commands.{Running}
 use Rattle.pac_command.specs.declared.given.Given.{Given}
 use Rattle.pac_command.specs.Plans.{CommandPlan, CommandProgram, Follows, FollowsProgram}
@@ -37,9 +36,7 @@ begins running next moment given clock old new made is same follows =
     begins_at running.now (λ seconds. next (given_at running seconds)) moment clock old new made is
     (subst (λ (g : Given). Follows (next g) (with_clock old clock) new made) same follows)
 
--- memory ran out behind the clock
-pub gives_up : (running : Running) (next : Given → CommandPlan) (moment : ℤ) (clock : Option ClockTold) (old : Outside)
-    → IsMoment running.now old.clock moment clock → FollowsProgram (begun running next) old (with_clock old clock) None
-gives_up running next moment clock old is =
-    begins_at running.now (λ seconds. next (given_at running seconds)) moment clock old (with_clock old clock) None is
-    (plans.gives_up talks (next (given_at running moment)) (with_clock old clock))
+-- who is asked is the same
+pub by_asking : (program : Asking → CommandProgram) (one other : Asking) (old new : Outside) (made : Option Output)
+    → one ≡ other → FollowsProgram (program one) old new made → FollowsProgram (program other) old new made
+by_asking program one other old new made same h = subst (λ (a : Asking). FollowsProgram (program a) old new made) same h

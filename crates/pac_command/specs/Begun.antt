@@ -1,17 +1,16 @@
 -- What the runs of a command are given, from the words and the clock.
 use Rattle.std.specs.Prelude.{◌≡◌, ℕ, ℤ, pos, Option, Some, None}
 use Rattle.pac_ports.specs.Clock.{ClockTold, with_moment}
-use Rattle.pac_clocks.specs.Clocks.{moments_at, nearest}
 use Rattle.pac_plan.specs.Plan.{at_once, timed}
 use Rattle.pac_words.specs.Commands.{Running}
 use Rattle.pac_command.specs.declared.given.Given.{Given}
 use Rattle.pac_command.specs.Plans.{CommandPlan, CommandProgram}
 
--- what each run is given at a moment, in seconds since 1970 in UTC; a clock that shows one that no command may have
--- counts as the nearest that it may have
+-- what each run is given where a command begins at a moment, in seconds since 1970 in UTC
 abbrev pub given_at : Running → ℤ → Given
 given_at running seconds = record {
-  now = moments_at (nearest seconds) running.zone;
+  start = seconds;
+  zone = running.zone;
   settings = record { my_ip = running.my_ip };
   fuel = running.fuel;
 }

@@ -1,8 +1,8 @@
 pub mod Plans
+pub mod Steps
 pub mod Scripts
-pub mod OneUrl
+pub mod Names
 pub mod Begun
-pub mod Resolve
-pub mod Map
+pub mod Urls
 pub mod Check
 pub mod Commands

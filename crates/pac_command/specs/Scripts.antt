@@ -8,7 +8,7 @@ use Rattle.js_tree.specs.declared.refusal.ReadKind.{ReadKind}
 use Rattle.js_tree.specs.declared.refusal.ReadKind.TheVariants as kind
 use Rattle.js_grammar.specs.Reading.{Refusal}
 use Rattle.js_grammar.specs.Statements.{script_of_text}
-use Rattle.pac_plan.specs.Plan.{Output, say, line}
+use Rattle.pac_plan.specs.Plan.{Output, say, line, read}
 use Rattle.pac_plan.specs.declared.status.Status.TheVariants as status
 use Rattle.pac_command.specs.Plans.{CommandPlan, if_read}
 
@@ -26,10 +26,18 @@ kind_name kind.Unsupported = codes "Unsupported"
 abbrev pub place_text : Place → List ℕ
 place_text place = decimal place.line ++ 58 ∷ decimal place.column
 
--- the place of the first refusal, a blank (32) and its name
+-- an input of this kind is refused at the line of this number, from 1, with the refusal's name behind a blank (32)
+abbrev pub refused_line : List ℕ → ℕ → List ℕ → Output
+refused_line kind number name = refused (kind ++ 32 ∷ (decimal number ++ 32 ∷ name))
+
+-- the place of the first refusal, a blank and its name
 abbrev pub refused_script : Refusal → Output
 refused_script refusal = refused (codes "script " ++ (place_text refusal.1 ++ 32 ∷ kind_name refusal.0))
 
 -- goes on with the script in a file of these bytes, or says its first refusal
 abbrev pub script_then : List ℕ → (List StatementTree → CommandPlan) → CommandPlan
 script_then bytes next = if_read (script_of_text (decoded_units bytes)) (λ refusal. say (refused_script refusal)) next
+
+-- reads the script
+abbrev pub script_from : List ℕ → (List StatementTree → CommandPlan) → CommandPlan
+script_from name next = read (codes "script") name (λ bytes. script_then bytes next)

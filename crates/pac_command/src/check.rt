@@ -1,16 +1,16 @@
 // `check`: a script as it is printed.
-ghost use Rattle.std.specs.Prelude.{◌≤◌, length};
 ghost use Rattle.pac_plan.specs.Plan.{Outside};
 ghost use Rattle.pac_plan.specs.Follows.{IsUnlessMemory};
-ghost use Rattle.pac_command.specs.Plans.{Follows};
-ghost use Rattle.pac_command.specs.Check.{check_plan, printed, script_plan};
 ghost use Rattle.pac_plan.specs.OutputView.{made};
+ghost use Rattle.pac_command.specs.Plans.{Follows};
+ghost use Rattle.pac_command.specs.Steps.{said_by};
+ghost use Rattle.pac_command.specs.Check.{check_plan, printed};
 
 use crate::Status;
-use crate::output::{not_read, refused_script};
-use crate::script::{FILE_LIMIT, script_in};
+use crate::early::Early;
+use crate::inputs::read_script_file;
 use js_printer::print;
-use js_tree::{ReadAnswer, Script};
+use js_tree::Script;
 use pac_plan::Output;
 use pac_ports::Files;
 use std::alloc::Global;
@@ -21,21 +21,18 @@ pub(crate) fn check<F: Files>(alloc: Global, script: &str, files: &mut F) -> Res
     ensures { (o : Outside) → Follows (check_plan script.now)
         (record o { files = F.state files.old }) (record o { files = F.state files.new }) (made result) }
 {
-    match files.read_all(alloc, script, FILE_LIMIT) {
-        Ok(bytes) => check_file(alloc, &bytes),
-        Err(why) => not_read(alloc, "script", why),
+    match check_file(alloc, script, files) {
+        Ok(output) => Ok(output),
+        Err(early) => early.output(),
     }
 }
 
-fn check_file(alloc: Global, bytes: &[u8]) -> Result<Output, Memory>
-    requires { length bytes.now ≤ 1048576 }
-    ensures { (o : Outside) → Follows (script_plan bytes.now) o o (made result) }
+fn check_file<F: Files>(alloc: Global, script: &str, files: &mut F) -> Result<Output, Early>
+    ensures { (o : Outside) → Follows (check_plan script.now)
+        (record o { files = F.state files.old }) (record o { files = F.state files.new }) (said_by result) }
 {
-    match script_in(alloc, bytes) {
-        Ok(script) => printed_script(alloc, &script),
-        Err(ReadAnswer::Refused(kind, place)) => refused_script(alloc, kind, place),
-        Err(ReadAnswer::Memory) => Err(Memory),
-    }
+    let script = read_script_file(alloc, script, files)?;
+    Ok(printed_script(alloc, &script)?)
 }
 
 fn printed_script(alloc: Global, script: &Script) -> Result<Output, Memory>

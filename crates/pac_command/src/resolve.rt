@@ -1,83 +1,74 @@
-// `resolve`: one URL by one script. Nobody is asked for names yet.
-ghost use Rattle.std.specs.Prelude.{◌≤◌, length};
+// `resolve`: URLs by one script, with names that a server is asked for.
+ghost use Rattle.stub_poller.specs.Ready.{AreTerms};
 ghost use Rattle.pac_plan.specs.Plan.{Outside};
 ghost use Rattle.pac_plan.specs.OutputView.{made};
-ghost use Rattle.pac_words.specs.Views.{running_view};
+ghost use Rattle.pac_words.specs.Views.{running_view, source_view};
+ghost use Rattle.url_runs.specs.Resolving.{Completion};
 ghost use Rattle.pac_command.specs.Plans.{Follows, FollowsProgram};
 ghost use Rattle.pac_command.specs.Begun.{begun};
-ghost use Rattle.pac_command.specs.Resolve as plan;
+ghost use Rattle.pac_command.specs.Steps.{said_by};
+ghost use Rattle.pac_command.specs.Commands as plan;
 
+use crate::early::Early;
 use crate::given::{Given, given_by};
-use crate::one_url::run_url;
-use crate::output::{not_read, refused_script};
-use crate::script::{FILE_LIMIT, script_in};
-use answer_table::AnswerTable;
-use js_tree::ReadAnswer;
+use crate::inputs::read_script_file;
+use crate::urls::read_urls;
+use js_scope::resolve as resolve_names;
 use pac_plan::Output;
-use pac_ports::{Clock, Files};
-use pac_words::Running;
+use pac_ports::{Clock, Dice, Files, Link};
+use pac_words::{Running, Source};
+use poll_loop::Asking;
 use std::alloc::Global;
 use std::sync::ledger::Ledger;
 use step_counter::Steps;
+use url_runs::resolve_urls;
 use utf16_text::Memory;
 
-/// Reads the script, then the URL, runs the script for it, and reports.
-pub(crate) fn resolve<F: Files, C: Clock, L: Ledger>(
+/// Reads the script, then the URLs, runs the script for all of them at once, and reports when each has ended.
+pub(crate) fn resolve<F: Files, N: Link, C: Clock, D: Dice, L: Ledger>(
     alloc: Global,
     script: &str,
+    from: &Source<'_>,
+    asking: Asking,
     running: &Running,
-    url: &str,
     files: &mut F,
+    link: &mut N,
     clock: &mut C,
+    dice: &mut D,
     runs: &mut Steps<L>,
 ) -> Result<Output, Memory>
-    ensures { (o : Outside) → FollowsProgram (begun (running_view running.entry.now) (λ given. plan.resolve_plan script.now given url.now))
-        (record o { files = F.state files.old; clock = C.told clock.old; runs = runs.old })
-        (record o { files = F.state files.new; clock = C.told clock.new; runs = runs.new }) (made result) }
+    requires { AreTerms asking.terms }
+    ensures { (complete : Completion) (o : Outside) → FollowsProgram (begun (running_view running.entry.now) (λ given. plan.resolve_plan complete script.now (source_view from.now) asking given))
+        (record o { files = F.state files.old; link = N.state link.old; clock = C.told clock.old; dice = D.told dice.old; runs = runs.old })
+        (record o { files = F.state files.new; link = N.state link.new; clock = C.told clock.new; dice = D.told dice.new; runs = runs.new }) (made result) }
 {
-    match given_by(alloc, running, clock) {
-        Ok(given) => resolve_given(alloc, script, given, url, files, runs),
-        Err(Memory) => Err(Memory),
+    let given = given_by(running, clock);
+    match resolve_given(alloc, script, from, asking, &given, files, link, dice, runs) {
+        Ok(output) => Ok(output),
+        Err(early) => early.output(),
     }
 }
 
-// The same with what the run is given.
-fn resolve_given<F: Files, L: Ledger>(
+/// The same with what the runs are given.
+fn resolve_given<F: Files, N: Link, D: Dice, L: Ledger>(
     alloc: Global,
     script: &str,
-    given: Given,
-    url: &str,
+    from: &Source<'_>,
+    asking: Asking,
+    given: &Given,
     files: &mut F,
+    link: &mut N,
+    dice: &mut D,
     runs: &mut Steps<L>,
-) -> Result<Output, Memory>
-    ensures { (o : Outside) → Follows (plan.resolve_plan script.now given url.now)
-        (record o { files = F.state files.old; runs = runs.old })
-        (record o { files = F.state files.new; runs = runs.new }) (made result) }
+) -> Result<Output, Early>
+    requires { AreTerms asking.terms }
+    ensures { (complete : Completion) (o : Outside) → Follows (plan.resolve_plan complete script.now (source_view from.now) asking given.now)
+        (record o { files = F.state files.old; link = N.state link.old; dice = D.told dice.old; runs = runs.old })
+        (record o { files = F.state files.new; link = N.state link.new; dice = D.told dice.new; runs = runs.new }) (said_by result) }
 {
-    match files.read_all(alloc, script, FILE_LIMIT) {
-        Ok(bytes) => resolve_file(alloc, &bytes, given, url, runs),
-        Err(why) => not_read(alloc, "script", why),
-    }
-}
-
-// The same with the bytes of the script's file.
-fn resolve_file<L: Ledger>(
-    alloc: Global,
-    bytes: &[u8],
-    given: Given,
-    url: &str,
-    runs: &mut Steps<L>,
-) -> Result<Output, Memory>
-    requires { length bytes.now ≤ 1048576 }
-    ensures { (o : Outside) → Follows (plan.script_plan bytes.now given url.now)
-        (record o { runs = runs.old }) (record o { runs = runs.new }) (made result) }
-{
-    match script_in(alloc, bytes) {
-        Ok(script) => {
-            let answers = AnswerTable::new(alloc);
-            run_url(alloc, script, given, &answers, url, runs)
-        }
-        Err(ReadAnswer::Refused(kind, place)) => refused_script(alloc, kind, place),
-        Err(ReadAnswer::Memory) => Err(Memory),
-    }
+    let script = read_script_file(alloc, script, files)?;
+    let urls = read_urls(alloc, from, given, files)?;
+    let program = resolve_names(alloc, script)?;
+    let output = resolve_urls(alloc, &program, urls, asking, link, dice, runs)?;
+    Ok(output)
 }

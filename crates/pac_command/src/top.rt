@@ -1,14 +1,15 @@
 // The top call.
-ghost use Rattle.std.specs.Prelude.{Some, map, string_bytes};
-ghost use Rattle.utf16_text.specs.Decode.{utf16_units};
+ghost use Rattle.std.specs.Prelude.{◌≡◌, Some, map, string_bytes};
 ghost use Rattle.pac_plan.specs.Plan.{Outside};
 ghost use Rattle.pac_plan.specs.Follows.{Gives, IsUnlessMemory};
 ghost use Rattle.pac_plan.specs.OutputView.{output_view, made};
 ghost use Rattle.pac_words.specs.Commands.{command_of};
-ghost use Rattle.pac_words.specs.Views.{asking_view, command_view, running_view, source_view};
-ghost use Rattle.pac_ask.specs.Ask.{ask_plan};
-ghost use Rattle.pac_command.specs.Plans.{Follows, FollowsProgram, Serves};
-ghost use Rattle.pac_command.specs.Commands.{asking_of, map_program, program_of, resolve_program, usage};
+ghost use Rattle.pac_words.specs.Views.{asking_view, command_view};
+ghost use Rattle.stub_poller.specs.Ready.{AreTerms};
+ghost use Rattle.pac_command.specs.Plans.{FollowsProgram, Serves};
+ghost use Rattle.url_runs.specs.Laws.{RunsAreFew, TasksAreSound};
+ghost use Rattle.url_runs.specs.Resolving.{Completion};
+ghost use Rattle.pac_command.specs.Commands.{asking_of, program_of, usage};
 
 use crate::Status;
 use crate::check::check;
@@ -17,7 +18,7 @@ use crate::resolve::resolve;
 use pac_ask::ask;
 use pac_plan::{Output, line};
 use pac_ports::{Clock, Dice, Files, Link, Sink, put};
-use pac_words::{Asking, Command, Running, Source, read_words};
+use pac_words::{Asking, Command, read_words};
 use poll_log::Terms;
 use std::alloc::Global;
 use std::sync::ledger::Ledger;
@@ -26,9 +27,8 @@ use utf16_text::Memory;
 
 /// Does what the words after the program's name ask for, writes the output to `out` and returns its status.
 ///
-/// `runs` counts the runs of the script. Only `ask` touches the link and the dice, and only `resolve` and `map` the clock,
-/// once, where the words don't say the moment.
-#[allow(clippy::too_many_arguments)]
+/// `runs` counts the runs of scripts. Only `resolve` and `ask` touch the link and the dice, and only `resolve` and `map` the
+/// clock, once, where the words don't say the moment.
 pub fn pac<F: Files, K: Sink, N: Link, C: Clock, D: Dice, L: Ledger>(
     alloc: Global,
     words: &Vec<String>,
@@ -39,11 +39,16 @@ pub fn pac<F: Files, K: Sink, N: Link, C: Clock, D: Dice, L: Ledger>(
     dice: &mut D,
     runs: &mut Steps<L>,
 ) -> Status
-    // The plan of the words is followed and its output written, with the order and completeness of every plan.
-    ensures { Serves (program_of (command_of (map string_bytes words.now.items)))
+    // The plan of the words is followed and its output written, with the order and completeness of every plan. What `resolve`
+    // reports is by runs against a map of all names, whichever agrees with the first accepted replies of the log.
+    ensures serves { (complete : Completion) → Serves (program_of complete (command_of (map string_bytes words.now.items)))
         (record { files = F.state files.old; link = N.state link.old; clock = C.told clock.old; dice = D.told dice.old; runs = runs.old })
         (record { files = F.state files.new; link = N.state link.new; clock = C.told clock.new; dice = D.told dice.new; runs = runs.new })
         (K.state out.old) (K.state out.new) result }
+    // No URL costs more runs than the distinct names of its whole run, and one.
+    ensures few_runs { RunsAreFew }
+    // What `resolve` polls for is sound, so where memory ran out its log is cut short.
+    ensures sound { TasksAreSound }
 {
     match output_of(alloc, words, files, link, clock, dice, runs) {
         Ok(output) => give(out, &output),
@@ -61,7 +66,7 @@ fn output_of<F: Files, N: Link, C: Clock, D: Dice, L: Ledger>(
     dice: &mut D,
     runs: &mut Steps<L>,
 ) -> Result<Output, Memory>
-    ensures { (o : Outside) → FollowsProgram (program_of (command_of (map string_bytes words.now)))
+    ensures { (complete : Completion) (o : Outside) → FollowsProgram (program_of complete (command_of (map string_bytes words.now)))
         (record o { files = F.state files.old; link = N.state link.old; clock = C.told clock.old; dice = D.told dice.old; runs = runs.old })
         (record o { files = F.state files.new; link = N.state link.new; clock = C.told clock.new; dice = D.told dice.new; runs = runs.new }) (made result) }
 {
@@ -84,7 +89,7 @@ fn done<F: Files, N: Link, C: Clock, D: Dice, L: Ledger>(
     dice: &mut D,
     runs: &mut Steps<L>,
 ) -> Result<Output, Memory>
-    ensures { (o : Outside) → FollowsProgram (program_of (Some (command_view command.now)))
+    ensures { (complete : Completion) (o : Outside) → FollowsProgram (program_of complete (Some (command_view command.now)))
         (record o { files = F.state files.old; link = N.state link.old; clock = C.told clock.old; dice = D.told dice.old; runs = runs.old })
         (record o { files = F.state files.new; link = N.state link.new; clock = C.told clock.new; dice = D.told dice.new; runs = runs.new }) (made result) }
 {
@@ -92,85 +97,45 @@ fn done<F: Files, N: Link, C: Clock, D: Dice, L: Ledger>(
         Command::Resolve {
             script,
             from,
+            asking,
             running,
-            ..
-        } => resolve_from(alloc, script, running, from, files, clock, runs),
+        } => resolve(
+            alloc,
+            script,
+            from,
+            asking_of(*asking),
+            running,
+            files,
+            link,
+            clock,
+            dice,
+            runs,
+        ),
         Command::Map {
             names,
             script,
             from,
             running,
-        } => map_from(alloc, names, script, running, from, files, clock, runs),
+        } => map(alloc, names, script, from, running, files, clock, runs),
         Command::Check { script } => check(alloc, script, files),
-        Command::Ask { name, asking } => ask_by(alloc, name, *asking, link, dice, runs),
+        Command::Ask { name, asking } => ask(alloc, name, asking_of(*asking), link, dice, runs),
         Command::Generate { .. } => faulty_usage(alloc),
     }
 }
 
-// Resolves one URL. A batch is to come.
-fn resolve_from<F: Files, C: Clock, L: Ledger>(
-    alloc: Global,
-    script: &str,
-    running: &Running,
-    from: &Source<'_>,
-    files: &mut F,
-    clock: &mut C,
-    runs: &mut Steps<L>,
-) -> Result<Output, Memory>
-    ensures { (o : Outside) → FollowsProgram (resolve_program script.now (running_view running.entry.now) (source_view from.now))
-        (record o { files = F.state files.old; clock = C.told clock.old; runs = runs.old })
-        (record o { files = F.state files.new; clock = C.told clock.new; runs = runs.new }) (made result) }
-{
-    match from {
-        Source::Url(url) => resolve(alloc, script, running, url, files, clock, runs),
-        Source::Batch(_) => faulty_usage(alloc),
-    }
-}
-
-// Maps one URL. A batch is to come.
-#[allow(clippy::too_many_arguments)]
-fn map_from<F: Files, C: Clock, L: Ledger>(
-    alloc: Global,
-    names: &str,
-    script: &str,
-    running: &Running,
-    from: &Source<'_>,
-    files: &mut F,
-    clock: &mut C,
-    runs: &mut Steps<L>,
-) -> Result<Output, Memory>
-    ensures { (o : Outside) → FollowsProgram (map_program names.now script.now (running_view running.entry.now) (source_view from.now))
-        (record o { files = F.state files.old; clock = C.told clock.old; runs = runs.old })
-        (record o { files = F.state files.new; clock = C.told clock.new; runs = runs.new }) (made result) }
-{
-    match from {
-        Source::Url(url) => map(alloc, names, script, running, url, files, clock, runs),
-        Source::Batch(_) => faulty_usage(alloc),
-    }
-}
-
-// Asks for a name as the words say.
-fn ask_by<N: Link, D: Dice, L: Ledger>(
-    alloc: Global,
-    name: &str,
-    asking: Asking,
-    link: &mut N,
-    dice: &mut D,
-    runs: &mut Steps<L>,
-) -> Result<Output, Memory>
-    ensures { (o : Outside) → Follows (ask_plan (asking_of (asking_view asking)) (utf16_units name.now))
-        (record o { link = N.state link.old; dice = D.told dice.old; runs = runs.old })
-        (record o { link = N.state link.new; dice = D.told dice.new; runs = runs.new }) (made result) }
+// Whom to ask, and how often, as the words say.
+fn asking_of(asking: Asking) -> poll_loop::Asking
+    ensures same { result ≡ asking_of (asking_view asking) }
+    ensures ready { AreTerms result.terms }
 {
     let terms = Terms {
         wait: asking.wait,
         tries: asking.tries,
     };
-    let asking = poll_loop::Asking {
+    poll_loop::Asking {
         server: asking.server,
         terms,
-    };
-    ask(alloc, name, asking, link, dice, runs)
+    }
 }
 
 fn faulty_usage(alloc: Global) -> Result<Output, Memory>

@@ -64,7 +64,7 @@ fn fault_line(alloc: Global, fault: &Fault) -> Result<String> {
     Ok(format!(in alloc; "{code:?} at {place} {detail}")?)
 }
 
-fn name_text(name: &LookupName) -> Result<&str> {
+pub(crate) fn name_text(name: &LookupName) -> Result<&str> {
     Ok(std::str::from_utf8(name.bytes())?)
 }
 

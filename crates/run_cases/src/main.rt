@@ -2,17 +2,19 @@
 //!
 //! The rows are written from ECMA-262 edition 5.1, sections 8 to 13 and 15.11, and from the page on the Netscape
 //! Navigator Proxy Auto-Config format, as the profile in docs/LANGUAGE.md has them. Each script is run twice over fresh
-//! hosts, and must come to the same: how it ends, the names that it asks and the alerts that are kept. In each run it
+//! hosts, and must come to the same: how it ends, the names that it asks and the alerts that are kept, or each call that it
+//! makes of its host, in their order. In each run it
 //! is Tuesday, 14 November 2023, 22:13:20 in GMT, and five hours later in the zone; the machine is 192.168.1.10. It
 //! reads the rows from its input, and stands on js_parser, js_scope and js_interp.
 #![tactic(auto)]
 
 mod answers;
+mod noting_host;
 mod scripts;
 mod surroundings;
 
 use anyhow::{Result, bail};
-use scripts::{counted, outcome, outcome_of_known};
+use scripts::{calls_of_host, counted, outcome, outcome_of_known};
 use std::alloc::Global;
 
 /// How much fuel a script has where its row doesn't say it.
@@ -31,6 +33,7 @@ fn answer(alloc: Global, part: &str, fields: &[&str]) -> Result<String> {
         "counts" => counted(alloc, only(fields)?, FUEL),
         "fuel" => fueled(alloc, fields),
         "repeated" => repeated(alloc, fields),
+        "calls of the host" => calls(alloc, fields),
         _ => bail!("no part {part}"),
     }
 }
@@ -63,6 +66,14 @@ fn fueled(alloc: Global, fields: &[&str]) -> Result<String> {
         bail!("a script and fuel");
     };
     outcome(alloc, script, fuel.parse::<u64>()?)
+}
+
+/// The calls that a script makes of a host that knows these names.
+fn calls(alloc: Global, fields: &[&str]) -> Result<String> {
+    let [script, known] = fields else {
+        bail!("a script and names");
+    };
+    calls_of_host(alloc, script, known, FUEL)
 }
 
 /// A script in which `@` stands for so many copies of a piece.

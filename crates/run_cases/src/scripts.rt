@@ -2,6 +2,7 @@
 ghost use Rattle.std.specs.Prelude.{◌≡◌, ◌<◌};
 
 use crate::answers::{written, written_in_numbers};
+use crate::noting_host::{NotingHost, known_without_address};
 use crate::surroundings::{NOW, SETTINGS, known_names};
 use anyhow::{Context, Result, bail, ensure};
 use case_rows::text;
@@ -29,6 +30,13 @@ pub(crate) fn counted(alloc: Global, source: &str, fuel: u64) -> Result<String> 
 /// What it comes to over a host at which it stops where it asks a name that the host doesn't know.
 pub(crate) fn outcome_of_known(alloc: Global, source: &str, fuel: u64) -> Result<String> {
     told_twice(alloc, source, fuel, over_table)
+}
+
+/// The calls that it makes of a host that knows these names, to none of which there is an address.
+pub(crate) fn calls_of_host(alloc: Global, source: &str, known: &str, fuel: u64) -> Result<String> {
+    told_twice(alloc, source, fuel, |alloc, program, entry| {
+        calls_over_table(alloc, program, entry, known)
+    })
 }
 
 /// What is told of a script each time that it is run.
@@ -89,6 +97,20 @@ fn over_table(alloc: Global, program: &Program, entry: &Entry) -> Result<String>
     let mut host = TracingHost::new(alloc, &names);
     let answer = answer_over(alloc, program, entry, &mut host);
     written(alloc, &answer, host.asked().as_slice())
+}
+
+fn calls_over_table(
+    alloc: Global,
+    program: &Program,
+    entry: &Entry,
+    known: &str,
+) -> Result<String> {
+    let names = known_without_address(alloc, known)?;
+    let mut host = NotingHost::new(alloc, &names);
+    match answer_over(alloc, program, entry, &mut host) {
+        RunAnswer::Memory => bail!("memory"),
+        _ => host.written(alloc),
+    }
 }
 
 /// What one run comes to, with a counter of its own.

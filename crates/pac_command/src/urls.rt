@@ -1,0 +1,116 @@
+// The URLs that a command is for.
+ghost use Rattle.std.specs.Prelude.{◌≡◌, ◌≤◌, ◌∷◌, [], length, IfOk, map};
+ghost use Rattle.js_interp.specs.Answers.{entry_of};
+ghost use Rattle.pac_plan.specs.Plan.{Outside};
+ghost use Rattle.pac_words.specs.Views.{source_view};
+ghost use Rattle.batch_text.specs.Batch.{get_of};
+ghost use Rattle.pac_command.specs.Steps.{IsStep};
+ghost use Rattle.pac_command.specs.Urls as spec;
+ghost use Rattle.pac_command.specs.Urls.{batch_then, entries_for, seen_entries, url_then, urls_from};
+
+use crate::early::Early;
+use crate::given::Given;
+use crate::inputs::read_file;
+use crate::output::{refused, refused_line};
+use batch_text::{Batch, BatchAnswer, BatchKind, BatchLine, View, ViewAnswer, read_batch, view};
+use js_interp::Entry;
+use pac_clocks::shown;
+use pac_ports::Files;
+use pac_words::Source;
+use std::alloc::Global;
+use utf16_text::Memory;
+
+/// What the runs of a command are for: one URL, or those of a batch, each at its moment.
+pub(crate) fn read_urls<F: Files>(
+    alloc: Global,
+    from: &Source<'_>,
+    given: &Given,
+    files: &mut F,
+) -> Result<Vec<Entry>, Early>
+    ensures { (o : Outside) → IsStep (urls_from given.now (source_view from.now))
+        (record o { files = F.state files.old }) (seen_entries result) (record o { files = F.state files.new }) }
+{
+    match from {
+        Source::Url(url) => one_url(alloc, url, given),
+        Source::Batch(file) => {
+            let bytes = read_file(alloc, "batch", file, files)?;
+            batch_in(alloc, &bytes, given)
+        }
+    }
+}
+
+/// One URL, at the moment of the command.
+fn one_url(alloc: Global, url: &str, given: &Given) -> Result<Vec<Entry>, Early>
+    ensures { (o : Outside) → IsStep (url_then given.now url.now) o (seen_entries result) o }
+{
+    match view(alloc, url) {
+        Ok(seen) => {
+            let entry = entry_at(alloc, given, given.start, seen)?;
+            Ok(only(alloc, entry)?)
+        }
+        Err(ViewAnswer::BadUrl) => {
+            let output = refused(alloc, "url BadUrl")?;
+            Err(Early::Said(output))
+        }
+        Err(ViewAnswer::Memory) => Err(Early::Memory),
+    }
+}
+
+fn only(alloc: Global, entry: Entry) -> Result<Vec<Entry>, Memory>
+    ensures { IfOk result (λ entries. entries.items ≡ entry ∷ []) }
+{
+    let mut entries = Vec::new(alloc);
+    entries.push(entry)?;
+    Ok(entries)
+}
+
+/// The URLs of a batch.
+fn batch_in(alloc: Global, bytes: &[u8], given: &Given) -> Result<Vec<Entry>, Early>
+    requires { length bytes.now ≤ 1048576 }
+    ensures { (o : Outside) → IsStep (batch_then given.now bytes.now) o (seen_entries result) o }
+{
+    match read_batch(alloc, bytes, given.start) {
+        Ok(batch) => Ok(entries_for(alloc, batch, given)?),
+        Err(BatchAnswer::Refused(kind, number)) => {
+            let output = refused_line(alloc, "batch", number, batch_kind(kind))?;
+            Err(Early::Said(output))
+        }
+        Err(BatchAnswer::Memory) => Err(Early::Memory),
+    }
+}
+
+fn batch_kind(kind: BatchKind) -> &'static str
+    ensures { result.now ≡ spec.batch_kind kind }
+{
+    match kind {
+        BatchKind::BadLine => "BadLine",
+        BatchKind::BadUrl => "BadUrl",
+        BatchKind::BackwardTime => "BackwardTime",
+        BatchKind::TooMany => "TooMany",
+    }
+}
+
+fn entries_for(alloc: Global, batch: Batch, given: &Given) -> Result<Vec<Entry>, Memory>
+    ensures { IfOk result (λ entries. map entry_of entries.items ≡ entries_for given.now (map get_of batch)) }
+{
+    let mut entries = Vec::new(alloc);
+    for line in batch.into_vec() {
+        let BatchLine::Get(moment, seen) = line;
+        entries.push(entry_at(alloc, given, moment, seen)?)?;
+    }
+    Ok(entries)
+}
+
+/// What a run is for: what a script sees of a URL, at a moment in seconds since 1970 in UTC.
+fn entry_at(alloc: Global, given: &Given, moment: i64, seen: View) -> Result<Entry, Memory>
+    ensures { IfOk result (λ entry. entry_of entry ≡ spec.entry_at given.now moment (record { url = seen.url; host = seen.host })) }
+{
+    let now = shown(alloc, moment, given.zone)?;
+    Ok(Entry {
+        url: seen.url,
+        host: seen.host,
+        now,
+        settings: given.settings,
+        fuel: given.fuel,
+    })
+}

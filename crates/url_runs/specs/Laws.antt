@@ -1,0 +1,29 @@
+-- Laws of what is reported of URLs.
+use Rattle.std.specs.Prelude.{◌≤◌, ◌+◌, List, length, map}
+use Rattle.js_host.specs.Answers.{AnswerMap}
+use Rattle.run_trees.specs.WholeRun.{asked_names}
+use Rattle.js_evaluation.specs.Evaluation.{Entry}
+use Rattle.poll_log.specs.declared.terms.Terms.{Terms}
+use Rattle.poll_log.specs.Turns.{Turns}
+use Rattle.poll_log.specs.Told.{told}
+use Rattle.poll_log.specs.Jobs.{runs_of}
+use Rattle.poll_loop.specs.Task.{IsSound}
+use Rattle.poll_loop.specs.declared.looping.Asking.{Asking}
+use Rattle.stub_poller.specs.Ready.{AreTerms}
+use Rattle.session_log.specs.Sessions.{Holds}
+use Rattle.session_core.specs.Resolved.{talk_of}
+use Rattle.url_runs.specs.Runs.{Resolved, url_run}
+use Rattle.url_runs.specs.Resolving.{url_job}
+
+-- A URL costs at most one run more than the distinct names that its uninterrupted run asks, against every map of all names
+-- that holds what is told.
+abbrev pub RunsAreFew : Type 0
+RunsAreFew =
+    (program : Resolved) (entry : Entry) (terms : Terms) (turns : Turns) (answers : AnswerMap) → Holds answers (told terms turns)
+    → runs_of terms turns (url_job program entry) ≤ length (asked_names answers (url_run program entry)) + 1
+
+-- What is polled for is sound: what waits lacks lookup names alone, and obeys the extension law with at most 32 names.
+abbrev pub TasksAreSound : Type 0
+TasksAreSound =
+    (asking : Asking) (program : Resolved) (entries : List Entry) → AreTerms asking.terms
+    → IsSound (talk_of asking (map (url_job program) entries)).task

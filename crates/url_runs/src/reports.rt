@@ -1,0 +1,64 @@
+// The report of all URLs, and its status.
+ghost use Rattle.std.specs.Prelude.{◌≡◌, IfOk, map};
+ghost use Rattle.std.specs.List.{list_any};
+ghost use Rattle.pac_plan.specs.Follows.{IsUnlessMemory};
+ghost use Rattle.pac_plan.specs.OutputView.{made};
+ghost use Rattle.report_text.specs.Report.{seen, seen_end};
+ghost use Rattle.url_runs.specs.Reports as spec;
+
+use js_interp::Ending;
+use pac_plan::{Output, Status};
+use report_text::{End, UrlEnd, report};
+use std::alloc::Global;
+use utf16_text::{Memory, Text};
+
+/// The report of URLs, as the script saw them, each with its end, in their order.
+pub(crate) fn reported(alloc: Global, urls: &[Text], ends: &[UrlEnd]) -> Result<Output, Memory>
+    ensures { IsUnlessMemory (spec.reported urls.now (map seen_end ends.now)) (made result) }
+{
+    let text = report(alloc, urls, ends)?;
+    Ok(Output {
+        status: status_of(ends),
+        text,
+    })
+}
+
+#[tactic(auto, using(crate::proofs::Tests::any_mapped))]
+fn status_of(ends: &[UrlEnd]) -> Status
+    ensures { result ≡ spec.status_of (map seen_end ends.now) }
+{
+    if some_unanswered(ends) {
+        Status::Unanswered
+    } else if some_fault(ends) {
+        Status::ScriptFault
+    } else {
+        Status::Good
+    }
+}
+
+fn some_unanswered(ends: &[UrlEnd]) -> bool
+    ensures { result ≡ list_any (λ e. spec.is_unanswered (seen e.end)) ends.now }
+{
+    ends.iter().any(|end| is_unanswered(&end.end))
+}
+
+fn is_unanswered(end: &End) -> bool
+    ensures { result ≡ spec.is_unanswered (seen end.now) }
+{
+    matches!(end, End::Unanswered(_))
+}
+
+fn some_fault(ends: &[UrlEnd]) -> bool
+    ensures { result ≡ list_any (λ e. spec.is_fault (seen e.end)) ends.now }
+{
+    ends.iter().any(|end| is_fault(&end.end))
+}
+
+fn is_fault(end: &End) -> bool
+    ensures { result ≡ spec.is_fault (seen end.now) }
+{
+    match end {
+        End::Done(outcome) => matches!(outcome.ending, Ending::Fault(_)),
+        End::Unanswered(_) => false,
+    }
+}

@@ -1,0 +1,44 @@
+// A script and a URL that it is run for.
+use js_host::Host;
+use js_interp::{Entry, Outcome, RunAnswer as Ran, run};
+use js_scope::Program;
+use session_core::{Run, RunAnswer};
+use std::alloc::Global;
+use std::sync::ledger::Ledger;
+use step_counter::Steps;
+
+/// A script, and what it is run for.
+#[derive(Drop)]
+pub struct UrlRun<'p> {
+    pub program: &'p Program,
+    pub entry: Entry,
+}
+
+impl<'p> Run for UrlRun<'p> {
+    ghost use Rattle.js_evaluation.specs.State.{RunEnd};
+    ghost use Rattle.url_runs.specs.Runs.{GivesOutcome, tree_of};
+    ghost use Rattle.url_runs.specs.Named.{named};
+
+    type Outcome = Outcome;
+
+    ghost End = { RunEnd };
+
+    ghost tree = { tree_of };
+
+    ghost gives = { GivesOutcome };
+
+    ghost named = { named };
+
+    fn run<H: Host, L: Ledger>(
+        &self,
+        alloc: Global,
+        host: &mut H,
+        runs: &mut Steps<L>,
+    ) -> RunAnswer<Outcome> {
+        match run(alloc, self.program, &self.entry, host, runs) {
+            Ran::Done(outcome) => RunAnswer::Done(outcome),
+            Ran::Missing(name) => RunAnswer::Missing(name),
+            Ran::Memory => RunAnswer::Memory,
+        }
+    }
+}
