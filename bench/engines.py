@@ -1,0 +1,125 @@
+"""The program and two JavaScript engines, each as whole processes on the same scripts, with their times and peaks.
+
+The engines are duktape and MuJS (Debian packages); one that is missing is named and left out. They get the functions of
+the proxy format as users of such engines write them, shExpMatch by a regular expression among them.
+"""
+import os
+import shutil
+import subprocess
+import sys
+import time
+
+TOP = os.path.dirname(os.path.dirname(os.path.abspath(__file__)))
+PAC = os.path.join(TOP, "crates", "pac_main", "out", "pac_main")
+MOMENT = "1700000000"
+
+HELPERS = r"""
+var NOW = new Date(MOMENT * 1000);
+function isPlainHostName(host) { return host.indexOf(".") < 0; }
+function dnsDomainIs(host, domain) {
+  return host.length >= domain.length && host.substring(host.length - domain.length) == domain;
+}
+function shExpMatch(text, pattern) {
+  var escaped = pattern.replace(/[.+^${}()|\[\]\\]/g, "\\$&").replace(/\*/g, ".*").replace(/\?/g, ".");
+  return new RegExp("^" + escaped + "$").test(text);
+}
+function dnsResolve(host) { return NAMES.hasOwnProperty(host) ? NAMES[host] : null; }
+function bits(quad) {
+  var parts = quad.split(".");
+  return (parts[0] << 24) | (parts[1] << 16) | (parts[2] << 8) | parts[3];
+}
+function isInNet(host, pattern, mask) {
+  var address = /^\d+\.\d+\.\d+\.\d+$/.test(host) ? host : dnsResolve(host);
+  return address != null && (bits(address) & bits(mask)) == (bits(pattern) & bits(mask));
+}
+function weekdayRange(first, last) {
+  var days = ["SUN", "MON", "TUE", "WED", "THU", "FRI", "SAT"];
+  var today = NOW.getUTCDay(), from = days.indexOf(first), to = days.indexOf(last);
+  return from <= to ? from <= today && today <= to : from <= today || today <= to;
+}
+""".replace("MOMENT", MOMENT)
+
+
+def company():
+    """The rules of a company, without the line that lowers the host: it is lowered, and texts have no methods yet."""
+    with open(os.path.join(TOP, "examples", "company.pac"), encoding="ascii") as file:
+        return file.read().replace("  host = host.toLowerCase();\n", "")
+
+
+def program():
+    """The program, which is built first where it is not current; or that of the environment's PAC."""
+    if "PAC" in os.environ:
+        return os.environ["PAC"]
+    if subprocess.run([os.path.join(TOP, "pac"), "--version"], stdout=subprocess.DEVNULL).returncode not in (0, 2):
+        sys.exit("the program was not built")
+    return PAC
+
+
+def engines():
+    """The path of each engine that is there, by its name."""
+    paths = {name: shutil.which(name) for name in ("duk", "mujs")}
+    for name in paths:
+        if paths[name] is None:
+            print(f"{name} is missing, its figures are left out")
+    return {name: path for name, path in paths.items() if path}
+
+
+def called(script, names, urls):
+    """What an engine runs: a script with the functions of the format, and calls for URLs and their hosts."""
+    table = ", ".join(f'"{name}": "{address}"' if address else f'"{name}": null' for name, address in names.items())
+    calls = ", ".join(f'["{url}", "{host}"]' for url, host in urls)
+    return f"""{HELPERS}var NAMES = {{{table}}};
+{script}
+var calls = [{calls}];
+for (var i = 0; i < calls.length; i++) print(FindProxyForURL(calls[i][0], calls[i][1]));
+"""
+
+
+def written(folder, name, text):
+    """The path of a new file."""
+    path = os.path.join(folder, name)
+    with open(path, "w", encoding="ascii") as file:
+        file.write(text)
+    return path
+
+
+def run(words):
+    """The seconds of a process, and its peak in megabytes, which the system tells as no less than that of this one."""
+    nothing = [(os.POSIX_SPAWN_OPEN, 1, os.devnull, os.O_WRONLY, 0)]
+    start = time.perf_counter()
+    child = os.posix_spawn(words[0], words, os.environ, file_actions=nothing)
+    _, status, usage = os.wait4(child, 0)
+    seconds = time.perf_counter() - start
+    if status != 0:
+        sys.exit(f"{words} ended with {os.waitstatus_to_exitcode(status)}")
+    return seconds, usage.ru_maxrss / 1024
+
+
+def best(commands, rounds):
+    """The best seconds of each command, the commands in turn."""
+    runs = [[run(words)[0] for words in commands] for _ in range(rounds)]
+    return [min(column) for column in zip(*runs)]
+
+
+def results(words):
+    """The result of each URL: those of a report, or the lines that an engine prints."""
+    lines = subprocess.run(words, stdout=subprocess.PIPE, check=True).stdout.decode().splitlines()
+    marked = [line.removeprefix("result ") for line in lines if line.startswith("result ")]
+    return marked or lines
+
+
+def agree(commands):
+    """Ends this measuring where the commands don't come to the same results."""
+    first, *others = [results(words) for words in commands]
+    for words, found in zip(commands[1:], others):
+        if found != first:
+            sys.exit(f"{commands[0]} and {words} come to different results")
+
+
+def verdict(is_met):
+    return "met" if is_met else "NOT MET"
+
+
+def comparison(times):
+    """Whether the program's time, which stands first, is below those of the engines, where one is there."""
+    return f"; below the engines: {verdict(times[0] < min(times[1:]))}" if times[1:] else ""
