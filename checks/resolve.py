@@ -163,9 +163,9 @@ def doubled(asked):
     return [(0, answer(asked)), (0, reply(asked.datagram, "10.9.9.9"))]
 
 
-# servers: what they send, the options, how often each name is asked, where that is sure
+# servers: what they send, the options, how often each name is asked, where that is sure; a socket that is full drops some
 SERVERS = {
-    "at once": (lambda asked: [(0, answer(asked))], [], 1),
+    "at once": (lambda asked: [(0, answer(asked))], [], None),
     "after up to 80 ms": (lambda asked: [(NOISE.random() * 0.08, answer(asked))], [], 1),
     "in reverse order": (lambda asked: [(0.2 - asked.place / 2000, answer(asked))], [], 1),
     "doubled": (doubled, [], None),
@@ -245,7 +245,8 @@ def from_another_port(asked):
     return [(0.05, reply(asked.datagram, ONE))]
 
 
-# servers: what they send, the URLs, the options, what each URL comes to, the status, how often each name is asked
+# servers: what they send, the URLs, the options, what each URL comes to, the status, how often each name is asked, where
+# that is sure
 QUICK = ["--wait=1", "--tries=3"]
 SMALL = {
     "a reply": (at_once, [A, B, A], [], [DONE, DONE, DONE], 0, {1}),
@@ -259,7 +260,7 @@ SMALL = {
     "a reply after the last try": (lambda asked: [(1, reply(asked.datagram, ONE))], [A], QUICK, [SILENT], 5, {3}),
     "noise": (noisy, [A, B], [], [DONE, DONE], 0, {1}),
     "noise alone": (lambda asked: noisy(asked)[:100], [A], QUICK, [SILENT], 5, {3}),
-    "a flood of 10,000": (flood, [A], [], [DONE], 0, {1}),
+    "a flood of 10,000": (flood, [A], [], [DONE], 0, None),
     "another sender": (from_another_port, [A], [], [DONE], 0, {1}),
     "a loop beside others": (at_once, [A, LOOP, B], ["--fuel=1000"], [DONE, SPENT, DONE], 1, {1}),
 }
@@ -270,7 +271,8 @@ def with_small_batches(failures):
         server = Server(make)
         expected = report(*((url, *end) for url, end in zip(urls, ends))), status
         compare(failures, name, server.resolved(ADDRESS, urls, *options), expected)
-        if {len(datagrams) for datagrams in server.questions.values()} != times or not server.is_sound():
+        counts = {len(datagrams) for datagrams in server.questions.values()}
+        if times is not None and counts != times or not server.is_sound():
             failures.append(f"{name}: the questions were {dict(server.questions)}")
     return len(SMALL)
 
