@@ -1,4 +1,6 @@
 pub mod KeyLemmas
+pub mod LayerLemmas
 pub mod ObjectLemmas
 pub mod PlaceLemmas
 pub mod RowLemmas
+pub mod TableLemmas

@@ -14,10 +14,10 @@ use Rattle.heap_objects.specs.Places.{NamesDiffer}
 use Rattle.heap_objects.specs.Slots.{standing, place_in, IsIndexOf, Updated, moved}
 use Rattle.heap_objects.proofs.RowLemmas.{same_name, with_property-missing, NamesDiffer-with, NamesDiffer-without}
 
-abbrev Slots : Type 0
+abbrev pub Slots : Type 0
 Slots = List (Option (List ℕ × Property))
 
-abbrev next : Option ℕ → Option ℕ
+abbrev pub next : Option ℕ → Option ℕ
 next o = option_map (λ i. suc i) o
 
 -- a place that is not the first
@@ -30,12 +30,12 @@ behind : (o : Option ℕ) (j : ℕ) → next o ≡ Some j → IsBehind o j
 behind None j e = absurd (cc)
 behind (Some i) j e = record { before = i; is = refl; after = (let f : suc i ≡ j = cc in sym f) }
 
-none_behind : (o : Option ℕ) → next o ≡ None → o ≡ None
+pub none_behind : (o : Option ℕ) → next o ≡ None → o ≡ None
 none_behind None e = refl
 none_behind (Some i) e = absurd (cc)
 
 -- a name that differs from the first stands further on
-place_past : (e : List ℕ × Property) (ss : Slots) (m : List ℕ) (o : Option ℕ) → bytes_eq m e.0 ≡ false → place_in (Some e ∷ ss) m ≡ o → next (place_in ss m) ≡ o
+pub place_past : (e : List ℕ × Property) (ss : Slots) (m : List ℕ) (o : Option ℕ) → bytes_eq m e.0 ≡ false → place_in (Some e ∷ ss) m ≡ o → next (place_in ss m) ≡ o
 place_past e ss m o apart is = sym (ap (λ b. cond b (Some 0) (next (place_in ss m))) apart) ∙ is
 
 at_front : (e : List ℕ × Property) (ss : Slots) (m : List ℕ) (j : ℕ) → bytes_eq m e.0 ≡ true → place_in (Some e ∷ ss) m ≡ Some j → j ≡ zero
@@ -59,7 +59,7 @@ place_in-some (Some e ∷ ss) m = ⊎_elim
     ∙ sym (ap (λ b. is_some (cond b (Some (e.1)) (property_at (standing ss) m))) apart))
     (cases_Bool (bytes_eq m e.0))
 
-nothing : {X : Type 0} (o : Option X) → is_some o ≡ false → o ≡ None
+pub nothing : {X : Type 0} (o : Option X) → is_some o ≡ false → o ≡ None
 nothing None e = refl
 nothing (Some x) e = absurd (cc)
 
@@ -200,7 +200,7 @@ next_if : (b : Bool) (k : ℕ) (o : Option ℕ) → next (cond b (Some k) o) ≡
 next_if true k o = refl
 next_if false k o = refl
 
-apart_from_first : (e : List ℕ × Property) (ss : Slots) (m : List ℕ) → place_in (Some e ∷ ss) m ≡ None → bytes_eq m e.0 ≡ false
+pub apart_from_first : (e : List ℕ × Property) (ss : Slots) (m : List ℕ) → place_in (Some e ∷ ss) m ≡ None → bytes_eq m e.0 ≡ false
 apart_from_first e ss m none = ⊎_elim
     (λ same. absurd (let found = sym (ap (λ b. cond b (Some 0) (next (place_in ss m))) same) ∙ none in cc))
     (λ apart. apart)

@@ -57,7 +57,7 @@ IsMissing-from (x ∷ xs) name (suc at) before all =
     }
 
 -- the first entry has another name than one that is missing
-differs_from_first : (e : List ℕ × Property) (es : List (List ℕ × Property)) (n : List ℕ) → property_at (e ∷ es) n ≡ None → bytes_eq n e.0 ≡ false
+pub differs_from_first : (e : List ℕ × Property) (es : List (List ℕ × Property)) (n : List ℕ) → property_at (e ∷ es) n ≡ None → bytes_eq n e.0 ≡ false
 differs_from_first e es n none = ⊎_elim
     (λ same. absurd (let found = ap (λ b. cond b (Some (e.1)) (property_at es n)) same in cc))
     (λ apart. apart)

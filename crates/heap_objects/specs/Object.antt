@@ -16,10 +16,15 @@ use Rattle.heap_values.specs.Views.{ObjectView}
 use Rattle.heap_objects.specs.Names.{array_index}
 use Rattle.heap_objects.specs.declared.marks.Marks.{Marks}
 use Rattle.heap_objects.specs.Properties.{property_at, with_property, without_property}
+use Rattle.heap_objects.specs.TableRows.{Row, entries_of}
 
 -- an object without properties
 abbrev pub empty_object : Kind → Option ObjectId → ObjectView
 empty_object kind prototype = record { kind = kind; properties = []; prototype = prototype; length = 0 }
+
+-- a built-in object with the properties of these rows
+abbrev pub built_in_object : Kind → Option ObjectId → List Row → ObjectView
+built_in_object kind prototype rows = record { kind = kind; properties = entries_of rows; prototype = prototype; length = 0 }
 
 -- whether the name is the length of such an object: that of an array is no property of its list
 abbrev pub is_length : Kind → List ℕ → Bool
@@ -38,9 +43,12 @@ found_property (Some p) = found_content p.content
 abbrev pub own_found : ObjectView → List ℕ → Found
 own_found o name = if is_length o.kind name then found.Value (Number (pos o.length)) else found_property (property_at o.properties name)
 
+abbrev pub marks_of : Property → Marks
+marks_of p = record { listed = p.listed; deletable = p.deletable }
+
 abbrev pub marks_if : Option Property → Option Marks
 marks_if None = None
-marks_if (Some p) = Some (record { listed = p.listed; deletable = p.deletable })
+marks_if (Some p) = Some (marks_of p)
 
 -- the marks of the property of this name in the object's list (8.6.1)
 abbrev pub own_marks : ObjectView → List ℕ → Option Marks
@@ -71,6 +79,11 @@ property_after v (Some p) = record p { content = content.Value v }
 abbrev pub value_property : Value → Bool → Bool → Property
 value_property v listed deletable = record { content = content.Value v; listed = listed; deletable = deletable }
 
+-- the property after a write, by the marks of the old one
+abbrev pub written : Value → Option Marks → Property
+written v None = value_property v true true
+written v (Some marks) = value_property v marks.listed marks.deletable
+
 -- the object with this property under a name that is not the length of an array
 abbrev pub object_with : ObjectView → List ℕ → Property → ObjectView
 object_with o name p = record o { properties = with_property o.properties name p; length = grown_length_of o name }
@@ -82,6 +95,10 @@ object_after o name v = object_with o name (property_after v (property_at o.prop
 abbrev pub is_deletable : Option Property → Bool
 is_deletable None = true
 is_deletable (Some p) = p.deletable
+
+abbrev pub is_fixed : Option Marks → Bool
+is_fixed None = false
+is_fixed (Some marks) = not marks.deletable
 
 -- nothing is there under the name that can't be deleted (8.12.7)
 abbrev pub can_delete : ObjectView → List ℕ → Bool

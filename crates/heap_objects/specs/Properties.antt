@@ -20,6 +20,11 @@ with_property (e ∷ es) name p = if bytes_eq name e.0 then (e.0, p) ∷ es else
 abbrev pub without_property : List (List ℕ × Property) → List ℕ → List (List ℕ × Property)
 without_property ps name = remove_entry (bytes_eq name) ps
 
+-- with each of these properties in turn
+abbrev pub with_properties : List (List ℕ × Property) → List (List ℕ × Property) → List (List ℕ × Property)
+with_properties ps [] = ps
+with_properties ps (e ∷ es) = with_properties (with_property ps e.0 e.1) es
+
 -- with a listed name among the indexes, kept rising
 abbrev pub index_put : List (ℕ × List ℕ) → List ℕ → Option ℕ → List (ℕ × List ℕ)
 index_put es name None = es

@@ -1,28 +1,30 @@
 // One object.
-ghost use Rattle.std.specs.Prelude.{◌≡◌, ◌-◌, false, IfOk, OnOk, OnErr, not, fold};
-ghost use Rattle.std.specs.Option.{option_copied};
+ghost use Rattle.std.specs.Prelude.{◌≡◌, ◌-◌, false, IfOk, OnOk, OnErr, map, fold};
 ghost use Rattle.heap_objects.specs.Object.{
   empty_object,
   own_found,
-  found_property,
+  built_in_object,
   own_marks,
   is_length,
   grown_length_of,
   put_cost_of,
-  property_after,
+  written,
   object_after,
   object_with,
   can_delete,
-  is_deletable,
+  is_fixed,
   object_without,
   object_cut,
   index_names,
 };
+ghost use Rattle.heap_objects.specs.Places.{NamesDiffer};
+ghost use Rattle.heap_objects.specs.TableRows.{entries_of, row_read};
 ghost use Rattle.heap_objects.specs.Properties.{listed_names_of, without_property};
 
+use crate::layered::Layered;
 use crate::marks::Marks;
 use crate::names::array_index;
-use crate::properties::Properties;
+use crate::table_row::TableRow;
 use heap_values::{Content, Found, Kind, ObjectId, Property, Value};
 use std::alloc::Global;
 use std::marker::Model;
@@ -36,7 +38,7 @@ const LENGTH: [u16; 6] = [108, 101, 110, 103, 116, 104];
 #[derive(Drop)]
 pub struct Object {
     kind: Kind,
-    properties: Properties,
+    properties: Layered,
     prototype: Option<ObjectId>,
     length: u32,
 }
@@ -56,10 +58,29 @@ impl Object {
     {
         Object {
             kind,
-            properties: Properties::new(alloc),
+            properties: Layered::new(alloc),
             prototype,
             length: 0,
         }
+    }
+
+    /// A built-in object with the properties of these rows.
+    pub fn built_in(
+        alloc: Global,
+        kind: Kind,
+        prototype: Option<ObjectId>,
+        rows: &'static [TableRow],
+    ) -> Result<Object, Memory>
+        requires { NamesDiffer (entries_of (map row_read rows.now)) }
+        ensures { IfOk result (λ object. object ≡ built_in_object kind prototype (map row_read rows.now)) }
+    {
+        let properties = Layered::built_in(alloc, rows)?;
+        Ok(Object {
+            kind,
+            properties,
+            prototype,
+            length: 0,
+        })
     }
 
     pub fn kind(&self) -> Kind
@@ -98,18 +119,14 @@ impl Object {
         if self.is_length(name) {
             return Ok(Found::Value(Value::Number(Whole::from(self.length))));
         }
-        found_under(alloc, self.properties.get(name))
+        self.properties.find(alloc, name)
     }
 
     /// The marks of the object's own property of this name. The length of an array is none.
     pub fn own_marks(&self, name: &Text) -> Option<Marks>
         ensures { result ≡ own_marks self.now name.now }
     {
-        let property = self.properties.get(name)?;
-        Some(Marks {
-            listed: property.listed,
-            deletable: property.deletable,
-        })
+        self.properties.marks(name)
     }
 
     /// The length that the object has once something stands under `name`.
@@ -130,7 +147,7 @@ impl Object {
         ensures { result ≡ put_cost_of self.now name.now }
     {
         let steps = u64::from(self.grown_length(name)) - u64::from(self.length);
-        match self.properties.get(name) {
+        match self.properties.marks(name) {
             None => steps + 1,
             Some(_) => steps,
         }
@@ -142,7 +159,7 @@ impl Object {
         ensures ok { OnOk result (self.new ≡ object_after self.old name.now value) }
         ensures unchanged { OnErr result (self.new ≡ self.old) }
     {
-        let property = written(self.properties.get(name), value);
+        let property = written(self.properties.marks(name), value);
         self.define(alloc, name, property)
     }
 
@@ -163,7 +180,7 @@ impl Object {
         ensures answer { result ≡ can_delete self.old name.now }
         ensures after { self.new ≡ object_without self.old name.now }
     {
-        if self.is_length(name) || is_fixed(self.properties.get(name)) {
+        if self.is_length(name) || is_fixed(self.properties.marks(name)) {
             return false;
         }
         self.properties.remove(name);
@@ -190,20 +207,8 @@ impl Object {
     }
 }
 
-fn found_under(alloc: Global, property: Option<&Property>) -> Result<Found, Memory>
-    ensures { IfOk result (λ found. found ≡ found_property (option_copied property.entry)) }
-{
-    match property {
-        None => Ok(Found::Absent),
-        Some(property) => match &property.content {
-            Content::Value(value) => Ok(Found::Value(value.copy(alloc)?)),
-            Content::LeftOut(text) => Ok(Found::LeftOut(text.copy(alloc)?)),
-        },
-    }
-}
-
-fn written(old: Option<&Property>, value: Value) -> Property
-    ensures { result ≡ property_after value (option_copied old.entry) }
+fn written(old: Option<Marks>, value: Value) -> Property
+    ensures { result ≡ written value old }
 {
     let content = Content::Value(value);
     match old {
@@ -212,21 +217,21 @@ fn written(old: Option<&Property>, value: Value) -> Property
             listed: true,
             deletable: true,
         },
-        Some(property) => Property {
+        Some(marks) => Property {
             content,
-            listed: property.listed,
-            deletable: property.deletable,
+            listed: marks.listed,
+            deletable: marks.deletable,
         },
     }
 }
 
 // Whether there is a property that can't be deleted.
-fn is_fixed(property: Option<&Property>) -> bool
-    ensures { result ≡ not (is_deletable (option_copied property.entry)) }
+fn is_fixed(marks: Option<Marks>) -> bool
+    ensures { result ≡ is_fixed marks }
 {
-    match property {
+    match marks {
         None => false,
-        Some(property) => !property.deletable,
+        Some(marks) => !marks.deletable,
     }
 }
 
@@ -241,7 +246,7 @@ fn names_between(alloc: Global, from: u32, to: u32) -> Result<TextList, Memory>
     Ok(names)
 }
 
-fn remove_all(properties: &mut Properties, names: &[Text])
+fn remove_all(properties: &mut Layered, names: &[Text])
     ensures { properties.new ≡ fold without_property properties.old names.now }
 {
     for name in names {

@@ -1,11 +1,18 @@
 // Many properties, each at its place in the order of creation.
 ghost use Rattle.std.specs.Prelude.{◌≡◌, [], IfOk, OnOk, OnErr};
 ghost use Rattle.std.specs.Option.{option_copied};
-ghost use Rattle.heap_objects.specs.Properties.{property_at, with_property, without_property, listed_names_of};
+ghost use Rattle.heap_objects.specs.Properties.{
+  property_at,
+  with_property,
+  with_properties,
+  without_property,
+  listed_names_of,
+};
 
 use crate::index::{move_places, put_place, remove_place};
+use crate::properties::Properties;
 use crate::slots::{
-    Slot, append_slot, drop_gaps, list_slots, next_place, property_at_place, write_slot,
+    Slot, append_slot, copy_slots, drop_gaps, list_slots, next_place, property_at_place, write_slot,
 };
 use heap_values::Property;
 use std::alloc::Global;
@@ -109,6 +116,13 @@ impl Ordered {
     {
         drop_gaps(&mut self.row);
         move_places(&self.row, &mut self.places);
+    }
+
+    /// Adds these properties to others, one after the other.
+    pub(crate) fn copy_into(&self, alloc: Global, all: &mut Properties) -> Result<(), Memory>
+        ensures { OnOk result (all.new ≡ with_properties all.old self.now) }
+    {
+        copy_slots(alloc, &self.row, all)
     }
 
     /// The names that are listed: array indexes first, rising, then the others in the order of creation.

@@ -1,7 +1,13 @@
 // The properties of one object.
 ghost use Rattle.std.specs.Prelude.{◌≡◌, [], IfOk, OnOk, OnErr};
 ghost use Rattle.std.specs.Option.{option_copied};
-ghost use Rattle.heap_objects.specs.Properties.{property_at, with_property, without_property, listed_names_of};
+ghost use Rattle.heap_objects.specs.Properties.{
+  property_at,
+  with_property,
+  with_properties,
+  without_property,
+  listed_names_of,
+};
 ghost use Rattle.heap_objects.specs.Places.{NamesDiffer};
 
 use crate::listing::list_row;
@@ -90,6 +96,16 @@ impl Properties {
         }
     }
 
+    /// Adds these properties to others, one after the other.
+    pub fn copy_into(&self, alloc: Global, all: &mut Properties) -> Result<(), Memory>
+        ensures { OnOk result (all.new ≡ with_properties all.old self.now) }
+    {
+        match &self.form {
+            Form::Row(row) => copy_row(alloc, row, all),
+            Form::Ordered(many) => many.copy_into(alloc, all),
+        }
+    }
+
     /// The names that are listed: array indexes first, rising, then the others in the order of creation.
     pub fn listed_names(&self, alloc: Global) -> Result<TextList, Memory>
         ensures { IfOk result (λ names. names ≡ listed_names_of self.now) }
@@ -99,6 +115,16 @@ impl Properties {
             Form::Ordered(many) => many.listed_names(alloc),
         }
     }
+}
+
+/// Adds the properties of a row to others.
+fn copy_row(alloc: Global, row: &[(Text, Property)], all: &mut Properties) -> Result<(), Memory>
+    ensures { OnOk result (all.new ≡ with_properties all.old row.now) }
+{
+    for entry in row {
+        all.set(alloc, &entry.0, entry.1.copy(alloc)?)?;
+    }
+    Ok(())
 }
 
 /// The properties of a row under numbers.

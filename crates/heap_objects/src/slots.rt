@@ -19,9 +19,10 @@ ghost use Rattle.std.specs.Prelude.{
 };
 ghost use Rattle.std.specs.Option.{option_copied};
 ghost use Rattle.heap_objects.specs.Slots.{property_in, standing};
-ghost use Rattle.heap_objects.specs.Properties.{listed_names_of};
+ghost use Rattle.heap_objects.specs.Properties.{listed_names_of, with_properties};
 
 use crate::listing::{join_names, list_name};
+use crate::properties::Properties;
 use heap_values::Property;
 use std::alloc::Global;
 use std::collections::BTreeMap;
@@ -76,6 +77,18 @@ pub(crate) fn drop_gaps(row: &mut Vec<Slot>)
     ensures fewer { length row.new.items ≤ length row.old.items }
 {
     row.retain(|slot| slot.is_some());
+}
+
+/// Adds what stands in a row to other properties, one after the other.
+pub(crate) fn copy_slots(alloc: Global, row: &[Slot], all: &mut Properties) -> Result<(), Memory>
+    ensures { OnOk result (all.new ≡ with_properties all.old (standing row.now)) }
+{
+    for slot in row {
+        if let Some(entry) = slot {
+            all.set(alloc, &entry.0, entry.1.copy(alloc)?)?;
+        }
+    }
+    Ok(())
 }
 
 /// The listed names of what stands in a row.

@@ -1,77 +1,110 @@
--- The objects that the tables give: how many there are, and that each prototype is older than its object.
-use Rattle.std.proofs.Common.{◌≡◌, ℕ, ◌<◌, ◌≤◌, ◌+◌, zero, suc, true, List, [], ◌∷◌, Option, Some, None, IfSome, slice_get, length, length-append, map, fold, refl, ap, sym, subst, arith}
-use Rattle.std.proofs.Math.ListN.{length-set}
+-- The objects that the table gives: that names differ, how many objects there are, and that each prototype is older.
+use Rattle.std.proofs.Common.{◌≡◌, ℕ, ◌<◌, ◌≤◌, ◌+◌, ◌-◌, zero, suc, Bool, true, get_or, List, [], ◌∷◌, ◌++◌, Option, Some, None, IfSome, is_none, slice_get, length, length-append, append_assoc, map, refl, ap, sym, subst, ◌∙◌, arith}
+use Rattle.std.specs.List.{list_all}
 use Rattle.std.proofs.lemmas.Bool.{and_parts}
 use Rattle.std.proofs.lemmas.Bool.Decides.{nat_tests}
+use Rattle.std.proofs.lemmas.List.{append-nil, length-map, map-append}
 use Rattle.heap_values.specs.declared.ids.ObjectId.{ObjectId}
+use Rattle.heap_values.specs.declared.property.Property.{Property}
 use Rattle.heap_values.specs.Views.{ObjectView}
-use Rattle.heap_objects.specs.Object.{object_with}
-use Rattle.object_heap.specs.declared.table.Blank.{Blank}
-use Rattle.object_heap.specs.declared.table.Entry.{Entry}
-use Rattle.object_heap.specs.declared.table.Entry.TheVariants.{LeftOut, Text, Undefined, Object, Native}
-use Rattle.object_heap.specs.Fresh.{Row, row_property, blank_object, native_object, with_native, with_row_at, with_row, is_below, are_ordered}
+use Rattle.heap_objects.specs.Properties.{property_at}
+use Rattle.heap_objects.specs.Places.{NamesDiffer}
+use Rattle.heap_objects.specs.TableRows.{Row, entries_of}
+use Rattle.object_heap.specs.Fresh.{TableObject, object_of, native_object, natives_from, names_differ, is_below, are_ordered, roots, prototypes, constructors, filled_objects, built_in_objects}
+use Rattle.object_heap.specs.declared.table.TheConstants.{FIRST_NATIVE, NATIVES, OBJECTS_MORE}
 use Rattle.object_heap.specs.Heap.{prototype_in, PrototypesAreOlder}
-use Rattle.object_heap.proofs.OlderLemmas.{older-slice_set, older-append}
+use Rattle.object_heap.proofs.OlderLemmas.{older-append}
+
+-- what all elements pass, each does
+pub all_at : {X : Type 0} (p : X → Bool) (xs : List X) (i : ℕ) (d : X) → i < length xs → list_all p xs ≡ true → p (get_or xs i d) ≡ true
+all_at p [] i d below all = absurd (omega arith)
+all_at p (x ∷ xs) zero d below all = (and_parts _ _ all).0
+all_at p (x ∷ xs) (suc i) d below all = all_at p xs i d (omega arith) (and_parts _ _ all).1
+
+none_from : (o : Option Property) → is_none o ≡ true → o ≡ None
+none_from None h = refl
+none_from (Some p) h = absurd (cc)
+
+pub NamesDiffer-rows : (rows : List Row) → names_differ rows ≡ true → NamesDiffer (entries_of rows)
+NamesDiffer-rows [] h = tt
+NamesDiffer-rows (row ∷ rows) h = (none_from (property_at (entries_of rows) row.0) (and_parts _ _ h).0, NamesDiffer-rows rows (and_parts _ _ h).1)
+
+pub length-natives_from : (number count : ℕ) → length (natives_from number count) ≡ count
+length-natives_from number zero = refl
+length-natives_from number (suc count) = ap (λ n. suc n) (length-natives_from (number + 1) count)
+
+-- the first of some natives
+pub natives_from-first : (from to : ℕ) → from < to → natives_from from (to - from) ≡ native_object from ∷ natives_from (from + 1) (to - (from + 1))
+natives_from-first from to below =
+    let count : to - from ≡ suc (to - (from + 1)) = omega arith in
+    ap (natives_from from) count
 
 is_below-true : (p : Option ObjectId) (at : ℕ) → is_below p at ≡ true → IfSome p (λ q. q.0 < at)
 is_below-true None at h = tt
 is_below-true (Some p) at h = grind (arith, nat_tests)
 
-older_from : (first : ℕ) (blanks : List Blank) → are_ordered first blanks ≡ true → (at : ℕ)
-    → IfSome (prototype_in (slice_get (map blank_object blanks) at)) (λ p. p.0 < first + at)
+older_from : (first : ℕ) (objects : List TableObject) → are_ordered first objects ≡ true → (at : ℕ)
+    → IfSome (prototype_in (slice_get (map object_of objects) at)) (λ p. p.0 < first + at)
 older_from first [] ordered at = tt
-older_from first (blank ∷ blanks) ordered zero =
+older_from first (object ∷ objects) ordered zero =
     let place : first ≡ first + 0 = omega arith in
-    subst (λ (n : ℕ). IfSome blank.prototype (λ p. p.0 < n)) place (is_below-true blank.prototype first (and_parts _ _ ordered).0)
-older_from first (blank ∷ blanks) ordered (suc at) =
+    subst (λ (n : ℕ). IfSome object.0.prototype (λ p. p.0 < n)) place (is_below-true object.0.prototype first (and_parts _ _ ordered).0)
+older_from first (object ∷ objects) ordered (suc at) =
     let place : suc first + at ≡ first + suc at = omega arith in
-    subst (λ (n : ℕ). IfSome (prototype_in (slice_get (map blank_object blanks) at)) (λ p. p.0 < n)) place (older_from (suc first) blanks (and_parts _ _ ordered).1 at)
+    subst (λ (n : ℕ). IfSome (prototype_in (slice_get (map object_of objects) at)) (λ p. p.0 < n)) place (older_from (suc first) objects (and_parts _ _ ordered).1 at)
 
--- blanks in order
-pub older-blanks : (blanks : List Blank) → are_ordered 0 blanks ≡ true → PrototypesAreOlder (map blank_object blanks)
-older-blanks blanks ordered at =
+-- objects in order
+pub older-objects : (objects : List TableObject) → are_ordered 0 objects ≡ true → PrototypesAreOlder (map object_of objects)
+older-objects objects ordered at =
     let place : 0 + at ≡ at = omega arith in
-    subst (λ (n : ℕ). IfSome (prototype_in (slice_get (map blank_object blanks) at)) (λ p. p.0 < n)) place (older_from 0 blanks ordered at)
+    subst (λ (n : ℕ). IfSome (prototype_in (slice_get (map object_of objects) at)) (λ p. p.0 < n)) place (older_from 0 objects ordered at)
 
-length-with_row_at : (objects : List ObjectView) (o : Option ObjectView) (row : Row) → length (with_row_at objects o row) ≡ length objects
-length-with_row_at objects None row = refl
-length-with_row_at objects (Some o) row = length-set objects row.0.0 (object_with o row.1 (row_property row (length objects)))
+-- natives behind objects of which Function.prototype is one
+pub older-natives : (number count : ℕ) (objects : List ObjectView) → 1 < length objects → PrototypesAreOlder objects → PrototypesAreOlder (objects ++ natives_from number count)
+older-natives number zero objects many older = subst PrototypesAreOlder (sym (append-nil objects)) older
+older-natives number (suc count) objects many older =
+    let native = native_object number in
+    let more : 1 < length (objects ++ native ∷ []) = omega (arith, length-append objects (native ∷ [])) in
+    subst PrototypesAreOlder (append_assoc objects (native ∷ []) (natives_from (number + 1) count))
+    (older-natives (number + 1) count (objects ++ native ∷ []) more (older-append objects native many older))
 
-older-with_row_at : (objects : List ObjectView) (o : Option ObjectView) (row : Row) → slice_get objects row.0.0 ≡ o
-    → PrototypesAreOlder objects → PrototypesAreOlder (with_row_at objects o row)
-older-with_row_at objects None row is older = older
-older-with_row_at objects (Some o) row is older =
-    older-slice_set objects row.0.0 (object_with o row.1 (row_property row (length objects))) (sym (ap prototype_in is)) older
+-- the whole table
+abbrev pub table : List TableObject
+table = (roots ++ prototypes) ++ constructors
 
-older-with_native : (entry : Entry) (objects : List ObjectView) → 1 < length objects → PrototypesAreOlder objects → PrototypesAreOlder (with_native entry objects)
-older-with_native LeftOut objects many older = older
-older-with_native Text objects many older = older
-older-with_native Undefined objects many older = older
-older-with_native (Object id) objects many older = older
-older-with_native (Native number) objects many older = older-append objects (native_object number) many older
+pub objects_of-parts : (map object_of roots ++ map object_of prototypes) ++ map object_of constructors ≡ map object_of table
+objects_of-parts =
+    sym (map-append object_of (roots ++ prototypes) constructors ∙ ap (λ os. os ++ map object_of constructors) (map-append object_of roots prototypes))
 
--- a native may be one object more
-pub length-with_native : (entry : Entry) (objects : List ObjectView) → (length objects ≤ length (with_native entry objects)) × (length (with_native entry objects) ≤ length objects + 1)
-length-with_native LeftOut objects = (omega arith, omega arith)
-length-with_native Text objects = (omega arith, omega arith)
-length-with_native Undefined objects = (omega arith, omega arith)
-length-with_native (Object id) objects = (omega arith, omega arith)
-length-with_native (Native number) objects = let e = length-append objects (native_object number ∷ []) in (omega arith, omega arith)
+pub filled_from-table : filled_objects table ≡ map object_of table ++ natives_from FIRST_NATIVE (NATIVES - FIRST_NATIVE)
+unfolding filled_objects
+filled_from-table = refl
 
-pub length-with_row : (objects : List ObjectView) (row : Row) → (length objects ≤ length (with_row objects row)) × (length (with_row objects row) ≤ length objects + 1)
-length-with_row objects row =
-    let bounds = length-with_native row.2 (with_row_at objects (slice_get objects row.0.0) row) in
-    let e = length-with_row_at objects (slice_get objects row.0.0) row in
-    (omega arith, omega arith)
+pub built_in-table : filled_objects table ≡ built_in_objects
+unfolding built_in_objects roots prototypes constructors
+built_in-table = refl
 
-pub older-with_row : (objects : List ObjectView) (row : Row) → 1 < length objects → PrototypesAreOlder objects → PrototypesAreOlder (with_row objects row)
-older-with_row objects row many older =
-    let e = length-with_row_at objects (slice_get objects row.0.0) row in
-    older-with_native row.2 (with_row_at objects (slice_get objects row.0.0) row) (omega arith) (older-with_row_at objects (slice_get objects row.0.0) row refl older)
+table-ordered : are_ordered 0 table ≡ true
+unfolding roots prototypes constructors
+table-ordered = refl
 
--- also after all rows
-pub older-rows : (rows : List Row) (objects : List ObjectView) → 1 < length objects → PrototypesAreOlder objects → PrototypesAreOlder (fold with_row objects rows)
-older-rows [] objects many older = older
-older-rows (row ∷ rows) objects many older =
-    let bounds = length-with_row objects row in
-    older-rows rows (with_row objects row) (omega arith) (older-with_row objects row many older)
+-- the first native without a name stands behind it
+length-table : length table ≡ FIRST_NATIVE + OBJECTS_MORE
+unfolding roots prototypes constructors
+length-table = refl
+
+-- the objects that the table gives
+pub older-table : PrototypesAreOlder (map object_of table ++ natives_from FIRST_NATIVE (NATIVES - FIRST_NATIVE))
+older-table =
+    let many : 1 < length (map object_of table) = omega (arith, length-map table object_of, length-table) in
+    older-natives FIRST_NATIVE (NATIVES - FIRST_NATIVE) (map object_of table) many (older-objects table table-ordered)
+
+pub few-objects : length (map object_of table ++ natives_from FIRST_NATIVE (NATIVES - FIRST_NATIVE)) ≤ 1000
+few-objects =
+    omega (
+      arith,
+      length-append (map object_of table) (natives_from FIRST_NATIVE (NATIVES - FIRST_NATIVE)),
+      length-map table object_of,
+      length-table,
+      length-natives_from FIRST_NATIVE (NATIVES - FIRST_NATIVE),
+    )

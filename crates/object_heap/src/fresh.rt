@@ -1,29 +1,30 @@
 // The built-in objects are made from the tables.
-ghost use Rattle.std.specs.Prelude.{◌≡◌, ◌<◌, ◌≤◌, ◌+◌, ◌^◌, IsTrue, IfOk, OnOk, map, length};
+ghost use Rattle.std.specs.Prelude.{◌≡◌, ◌≤◌, ◌-◌, ◌++◌, IsTrue, IfOk, OnOk, map, length};
 ghost use Rattle.std.specs.List.{list_all};
+ghost use Rattle.heap_objects.specs.TableRows.{row_read};
 ghost use Rattle.object_heap.specs.Fresh.{
   built_in_number,
-  entry_content,
-  blank_object,
-  with_row,
-  with_native,
-  row_read,
-  is_sound_row,
-  are_ordered,
-  filled_objects,
+  object_read,
+  object_of as object_view,
+  natives_from,
+  names_differ,
+  roots,
+  prototypes,
+  constructors,
   built_in_objects,
 };
 ghost use Rattle.object_heap.specs.Heap.{PrototypesAreOlder};
 
 use crate::table::{
-    ARRAY_PROTOTYPE, BLANKS, BOOLEAN_PROTOTYPE, Blank, ERROR_PROTOTYPE, Entry, FUNCTION_PROTOTYPE,
-    GLOBAL, NUMBER_PROTOTYPE, OBJECT_PROTOTYPE, RANGE_ERROR_PROTOTYPE, REFERENCE_ERROR_PROTOTYPE,
-    ROWS, Row, STRING_PROTOTYPE, TYPE_ERROR_PROTOTYPE,
+    ARRAY_PROTOTYPE, BOOLEAN_PROTOTYPE, CONSTRUCTORS, ERROR_PROTOTYPE, FIRST_NATIVE,
+    FUNCTION_PROTOTYPE, GLOBAL, NATIVES, NUMBER_PROTOTYPE, OBJECT_PROTOTYPE, OBJECTS_MORE,
+    PROTOTYPES, RANGE_ERROR_PROTOTYPE, REFERENCE_ERROR_PROTOTYPE, ROOTS, STRING_PROTOTYPE,
+    TYPE_ERROR_PROTOTYPE, TableObject,
 };
 use heap_objects::Object;
-use heap_values::{BuiltIn, Content, Kind, ObjectId, Property, Value};
+use heap_values::{BuiltIn, Kind, ObjectId};
 use std::alloc::Global;
-use utf16_text::{Memory, Text};
+use utf16_text::Memory;
 
 /// The built-in object.
 pub(crate) fn object_of(which: BuiltIn) -> ObjectId
@@ -50,74 +51,53 @@ pub(crate) fn make_built_ins(alloc: Global) -> Result<Vec<Object>, Memory>
     ensures count { IfOk result (λ objects. length objects.items ≤ 1000) }
     ensures older { IfOk result (λ objects. PrototypesAreOlder objects.items) }
 {
-    fill(alloc, &BLANKS, ROWS)
-}
-
-/// The objects that the tables give.
-fn fill(alloc: Global, blanks: &[Blank], rows: &[Row]) -> Result<Vec<Object>, Memory>
-    requires few { length blanks.now + length rows.now ≤ 1000 }
-    requires functions { 1 < length blanks.now }
-    requires ordered { IsTrue (are_ordered 0 blanks.now) }
-    requires sound { IsTrue (list_all (λ row. is_sound_row (length blanks.now) (row_read row)) rows.now) }
-    ensures objects { IfOk result (λ objects. objects.items ≡ filled_objects blanks.now (map row_read rows.now)) }
-    ensures count { IfOk result (λ objects. length objects.items ≤ 1000) }
-    ensures older { IfOk result (λ objects. PrototypesAreOlder objects.items) }
-{
-    let mut objects = make_blanks(alloc, blanks)?;
-    for row in rows {
-        add_row(alloc, &mut objects, row)?;
-    }
+    let mut objects = Vec::with_capacity(alloc, usize::from(NATIVES) + OBJECTS_MORE as usize)?;
+    add_roots(alloc, &mut objects)?;
+    add_prototypes(alloc, &mut objects)?;
+    add_constructors(alloc, &mut objects)?;
+    add_natives(alloc, &mut objects)?;
     Ok(objects)
 }
 
-fn make_blanks(alloc: Global, blanks: &[Blank]) -> Result<Vec<Object>, Memory>
-    ensures { IfOk result (λ objects. objects.items ≡ map blank_object blanks.now) }
+fn add_roots(alloc: Global, objects: &mut Vec<Object>) -> Result<(), Memory>
+    ensures { OnOk result (objects.new.items ≡ objects.old.items ++ map object_view roots) }
 {
-    let mut objects = Vec::new(alloc);
-    for blank in blanks {
-        objects.push(Object::new(alloc, blank.kind, blank.prototype))?;
-    }
-    Ok(objects)
+    add_objects(alloc, objects, ROOTS)
 }
 
-fn add_row(alloc: Global, objects: &mut Vec<Object>, row: &Row) -> Result<(), Memory>
-    requires few { length objects.old.items < 2 ^ 32 }
-    requires sound { IsTrue (is_sound_row (length objects.old.items) (row_read row.now)) }
-    ensures { OnOk result (objects.new.items ≡ with_row objects.old.items (row_read row.now)) }
+fn add_prototypes(alloc: Global, objects: &mut Vec<Object>) -> Result<(), Memory>
+    ensures { OnOk result (objects.new.items ≡ objects.old.items ++ map object_view prototypes) }
 {
-    let (holder, name, entry, text, deletable) = *row;
-    let name = Text::from_latin_1(alloc, name.as_bytes())?;
-    let property = Property {
-        content: content_of(alloc, entry, text, objects.len() as u32)?,
-        listed: false,
-        deletable,
-    };
-    let object = &mut objects[holder.0 as usize];
-    object.define(alloc, &name, property)?;
-    add_native(alloc, objects, entry)
+    add_objects(alloc, objects, PROTOTYPES)
 }
 
-fn content_of(alloc: Global, entry: Entry, text: &str, count: u32) -> Result<Content, Memory>
-    ensures { IfOk result (λ content. content ≡ entry_content entry text.now count) }
+fn add_constructors(alloc: Global, objects: &mut Vec<Object>) -> Result<(), Memory>
+    ensures { OnOk result (objects.new.items ≡ objects.old.items ++ map object_view constructors) }
 {
-    match entry {
-        Entry::LeftOut => Ok(Content::LeftOut(Text::from_latin_1(alloc, text.as_bytes())?)),
-        Entry::Text => Ok(Content::Value(Value::Text(Text::from_latin_1(alloc, text.as_bytes())?))),
-        Entry::Undefined => Ok(Content::Value(Value::Undefined)),
-        Entry::Object(id) => Ok(Content::Value(Value::Object(id))),
-        Entry::Native(_number) => Ok(Content::Value(Value::Object(ObjectId(count)))),
-    }
+    add_objects(alloc, objects, CONSTRUCTORS)
 }
 
-// The native that the entry makes goes behind the objects.
-fn add_native(alloc: Global, objects: &mut Vec<Object>, entry: Entry) -> Result<(), Memory>
-    ensures { OnOk result (objects.new.items ≡ with_native entry objects.old.items) }
+/// Adds the objects of a part of the table.
+fn add_objects(
+    alloc: Global,
+    objects: &mut Vec<Object>,
+    table: &'static [TableObject],
+) -> Result<(), Memory>
+    requires { IsTrue (list_all (λ object. names_differ (map row_read object.1.now)) table.now) }
+    ensures { OnOk result (objects.new.items ≡ objects.old.items ++ map object_view (map object_read table.now)) }
 {
-    match entry {
-        Entry::Native(number) => {
-            objects.push(Object::new(alloc, Kind::Native(number), Some(FUNCTION_PROTOTYPE)))?;
-            Ok(())
-        }
-        _ => Ok(()),
+    for (blank, rows) in table {
+        objects.push(Object::built_in(alloc, blank.kind, blank.prototype, rows)?)?;
     }
+    Ok(())
+}
+
+/// Adds the natives that aren't in the table.
+fn add_natives(alloc: Global, objects: &mut Vec<Object>) -> Result<(), Memory>
+    ensures { OnOk result (objects.new.items ≡ objects.old.items ++ natives_from FIRST_NATIVE (NATIVES - FIRST_NATIVE)) }
+{
+    for number in FIRST_NATIVE..NATIVES {
+        objects.push(Object::new(alloc, Kind::Native(number), Some(FUNCTION_PROTOTYPE)))?;
+    }
+    Ok(())
 }

@@ -1,34 +1,18 @@
-// The built-in objects of a fresh heap, as data (ECMA-262 5.1, section 15). A native that isn't built yet, and a property
-// that this profile leaves out, is the mark left out with the text by which a fault names it. None is listed.
+// The built-in objects of a fresh heap, as data (ECMA-262 5.1, section 15). A native that isn't built yet, and a
+// property that this profile leaves out, is the mark left out with the text by which a fault names it. None is listed.
 //
-// To build a native, write `Native` and its number in place of `LeftOut` in its row, or `Object` and its name in the rows
-// of an object that stands in `BLANKS`.
-use Entry::{LeftOut, Native, Object, Text, Undefined};
+// To build a native, write `native!(NUMBER), ""` in place of `LeftOut` and its text in its row, and raise `NATIVES`
+// where its number is the greatest. For an object that has a name below write `Object(NAME), ""`.
+use Entry::{LeftOut, Object, Text, Undefined};
+use heap_objects::{Entry, TableRow};
 use heap_values::{Kind, ObjectId};
 
-/// A built-in object without its properties.
+/// A built-in object: what it is and its prototype.
 #[derive(Clone, Copy)]
 pub(crate) struct Blank {
     pub(crate) kind: Kind,
     pub(crate) prototype: Option<ObjectId>,
 }
-
-/// What stands under a name. The row's text goes with `LeftOut` and `Text`.
-#[derive(Clone, Copy)]
-pub(crate) enum Entry {
-    /// The mark left out.
-    LeftOut,
-    Text,
-    Undefined,
-    /// An object of `BLANKS`.
-    Object(ObjectId),
-    /// A function of its own: the native of this number, made with the row.
-    Native(u16),
-}
-
-/// A property of a built-in object: the object, the name, what stands there with its text, and whether it can be
-/// deleted. (It is a tuple because clauses can't see a constant of a struct that holds references.)
-pub(crate) type Row = (ObjectId, &'static str, Entry, &'static str, bool);
 
 pub(crate) const OBJECT_PROTOTYPE: ObjectId = ObjectId(0);
 
@@ -72,232 +56,343 @@ pub(crate) const RANGE_ERROR: ObjectId = ObjectId(19);
 
 pub(crate) const REFERENCE_ERROR: ObjectId = ObjectId(20);
 
-/// The built-in objects that a row is about or names, in the order of creation: each in the place that its name above
-/// says, and each prototype before its objects.
+/// How many natives there are: their numbers are those below it.
+pub(crate) const NATIVES: u16 = 69;
+
+/// The first native that has no name above. From it on the natives stand behind the objects that have one, in the order
+/// of their numbers.
+pub(crate) const FIRST_NATIVE: u16 = 10;
+
+/// The object of such a native is the one of its number and so many more.
+pub(crate) const OBJECTS_MORE: u32 = 11;
+
+/// What stands in a row whose value is the native of this number, from `FIRST_NATIVE` on.
+macro_rules! native {
+    ($number:literal) => {
+        Object(ObjectId($number + OBJECTS_MORE))
+    };
+}
+
+/// A built-in object and its properties, in the order of creation.
+pub(crate) type TableObject = (Blank, &'static [TableRow]);
+
+// The built-in objects that have a name above, each in the place that its name says, and each prototype before its
+// objects. They stand in three parts, since a proof about one constant of all of them takes too many steps.
+
+/// What other prototypes stand on, and the global object.
 #[rattlefmt::skip]
-pub(crate) const BLANKS: [Blank; 21] = [
+pub(crate) const ROOTS: &[TableObject] = &[
     // 0: `Object.prototype`.
-    Blank { kind: Kind::Plain, prototype: None },
+    (Blank { kind: Kind::Plain, prototype: None }, OBJECT_PROTOTYPE_ROWS),
     // 1: `Function.prototype`.
-    Blank { kind: Kind::Native(0), prototype: Some(OBJECT_PROTOTYPE) },
+    (Blank { kind: Kind::Native(0), prototype: Some(OBJECT_PROTOTYPE) }, FUNCTION_PROTOTYPE_ROWS),
     // 2: the global object.
-    Blank { kind: Kind::Plain, prototype: Some(OBJECT_PROTOTYPE) },
-    // 3: `Array.prototype`.
-    Blank { kind: Kind::Array, prototype: Some(OBJECT_PROTOTYPE) },
-    // 4: `String.prototype`.
-    Blank { kind: Kind::Plain, prototype: Some(OBJECT_PROTOTYPE) },
-    // 5: `Number.prototype`.
-    Blank { kind: Kind::Plain, prototype: Some(OBJECT_PROTOTYPE) },
-    // 6: `Boolean.prototype`.
-    Blank { kind: Kind::Plain, prototype: Some(OBJECT_PROTOTYPE) },
-    // 7: `Error.prototype`.
-    Blank { kind: Kind::Error, prototype: Some(OBJECT_PROTOTYPE) },
-    // 8: `TypeError.prototype`.
-    Blank { kind: Kind::Error, prototype: Some(ERROR_PROTOTYPE) },
-    // 9: `RangeError.prototype`.
-    Blank { kind: Kind::Error, prototype: Some(ERROR_PROTOTYPE) },
-    // 10: `ReferenceError.prototype`.
-    Blank { kind: Kind::Error, prototype: Some(ERROR_PROTOTYPE) },
-    // 11: `Math`.
-    Blank { kind: Kind::Plain, prototype: Some(OBJECT_PROTOTYPE) },
-    // 12: `Object`.
-    Blank { kind: Kind::Native(1), prototype: Some(FUNCTION_PROTOTYPE) },
-    // 13: `Array`.
-    Blank { kind: Kind::Native(2), prototype: Some(FUNCTION_PROTOTYPE) },
-    // 14: `String`.
-    Blank { kind: Kind::Native(3), prototype: Some(FUNCTION_PROTOTYPE) },
-    // 15: `Number`.
-    Blank { kind: Kind::Native(4), prototype: Some(FUNCTION_PROTOTYPE) },
-    // 16: `Boolean`.
-    Blank { kind: Kind::Native(5), prototype: Some(FUNCTION_PROTOTYPE) },
-    // 17: `Error`.
-    Blank { kind: Kind::Native(6), prototype: Some(FUNCTION_PROTOTYPE) },
-    // 18: `TypeError`.
-    Blank { kind: Kind::Native(7), prototype: Some(FUNCTION_PROTOTYPE) },
-    // 19: `RangeError`.
-    Blank { kind: Kind::Native(8), prototype: Some(FUNCTION_PROTOTYPE) },
-    // 20: `ReferenceError`.
-    Blank { kind: Kind::Native(9), prototype: Some(FUNCTION_PROTOTYPE) },
+    (Blank { kind: Kind::Plain, prototype: Some(OBJECT_PROTOTYPE) }, GLOBAL_ROWS),
 ];
 
-/// Their properties, in the order of creation.
+/// The other prototypes.
 #[rattlefmt::skip]
-pub(crate) const ROWS: &[Row] = &[
-    (GLOBAL, "undefined", Undefined, "", false),
-    (GLOBAL, "NaN", LeftOut, "NaN", false),
-    (GLOBAL, "Infinity", LeftOut, "Infinity", false),
-    (GLOBAL, "eval", LeftOut, "eval", true),
-    (GLOBAL, "parseInt", LeftOut, "parseInt", true),
-    (GLOBAL, "parseFloat", LeftOut, "parseFloat", true),
-    (GLOBAL, "isNaN", LeftOut, "isNaN", true),
-    (GLOBAL, "isFinite", LeftOut, "isFinite", true),
-    (GLOBAL, "encodeURI", LeftOut, "encodeURI", true),
-    (GLOBAL, "encodeURIComponent", LeftOut, "encodeURIComponent", true),
-    (GLOBAL, "decodeURI", LeftOut, "decodeURI", true),
-    (GLOBAL, "decodeURIComponent", LeftOut, "decodeURIComponent", true),
-    (GLOBAL, "escape", LeftOut, "escape", true),
-    (GLOBAL, "unescape", LeftOut, "unescape", true),
-    (GLOBAL, "Object", LeftOut, "Object", true),
-    (GLOBAL, "Function", LeftOut, "Function", true),
-    (GLOBAL, "Array", LeftOut, "Array", true),
-    (GLOBAL, "String", LeftOut, "String", true),
-    (GLOBAL, "Number", LeftOut, "Number", true),
-    (GLOBAL, "Boolean", LeftOut, "Boolean", true),
-    (GLOBAL, "Math", Object(MATH), "", true),
-    (GLOBAL, "Date", LeftOut, "Date", true),
-    (GLOBAL, "RegExp", LeftOut, "RegExp", true),
-    (GLOBAL, "JSON", LeftOut, "JSON", true),
-    (GLOBAL, "Error", Object(ERROR), "", true),
-    (GLOBAL, "TypeError", Object(TYPE_ERROR), "", true),
-    (GLOBAL, "RangeError", Object(RANGE_ERROR), "", true),
-    (GLOBAL, "ReferenceError", Object(REFERENCE_ERROR), "", true),
-    (GLOBAL, "SyntaxError", LeftOut, "SyntaxError", true),
-    (GLOBAL, "EvalError", LeftOut, "EvalError", true),
-    (GLOBAL, "URIError", LeftOut, "URIError", true),
-    (GLOBAL, "isPlainHostName", Native(13), "", true),
-    (GLOBAL, "dnsDomainIs", Native(14), "", true),
-    (GLOBAL, "localHostOrDomainIs", Native(15), "", true),
-    (GLOBAL, "dnsDomainLevels", Native(16), "", true),
-    (GLOBAL, "dnsResolve", Native(17), "", true),
-    (GLOBAL, "isResolvable", Native(18), "", true),
-    (GLOBAL, "isInNet", Native(19), "", true),
-    (GLOBAL, "myIpAddress", Native(20), "", true),
-    (GLOBAL, "shExpMatch", Native(21), "", true),
-    (GLOBAL, "alert", Native(22), "", true),
-    (GLOBAL, "weekdayRange", Native(23), "", true),
-    (GLOBAL, "dateRange", Native(24), "", true),
-    (GLOBAL, "timeRange", Native(25), "", true),
-    (OBJECT_PROTOTYPE, "constructor", LeftOut, "Object", true),
-    (OBJECT_PROTOTYPE, "toString", Native(11), "", true),
-    (OBJECT_PROTOTYPE, "valueOf", Native(12), "", true),
-    (OBJECT_PROTOTYPE, "hasOwnProperty", LeftOut, "Object.prototype.hasOwnProperty", true),
-    (OBJECT_PROTOTYPE, "toLocaleString", LeftOut, "Object.prototype.toLocaleString", true),
-    (OBJECT_PROTOTYPE, "isPrototypeOf", LeftOut, "Object.prototype.isPrototypeOf", true),
-    (OBJECT_PROTOTYPE, "propertyIsEnumerable", LeftOut, "Object.prototype.propertyIsEnumerable", true),
-    (FUNCTION_PROTOTYPE, "constructor", LeftOut, "Function", true),
-    (FUNCTION_PROTOTYPE, "call", LeftOut, "Function.prototype.call", true),
-    (FUNCTION_PROTOTYPE, "apply", LeftOut, "Function.prototype.apply", true),
-    (FUNCTION_PROTOTYPE, "bind", LeftOut, "Function.prototype.bind", true),
-    (FUNCTION_PROTOTYPE, "toString", LeftOut, "Function.prototype.toString", true),
-    (ARRAY_PROTOTYPE, "constructor", LeftOut, "Array", true),
-    (ARRAY_PROTOTYPE, "push", LeftOut, "Array.prototype.push", true),
-    (ARRAY_PROTOTYPE, "pop", LeftOut, "Array.prototype.pop", true),
-    (ARRAY_PROTOTYPE, "shift", LeftOut, "Array.prototype.shift", true),
-    (ARRAY_PROTOTYPE, "unshift", LeftOut, "Array.prototype.unshift", true),
-    (ARRAY_PROTOTYPE, "concat", LeftOut, "Array.prototype.concat", true),
-    (ARRAY_PROTOTYPE, "slice", LeftOut, "Array.prototype.slice", true),
-    (ARRAY_PROTOTYPE, "splice", LeftOut, "Array.prototype.splice", true),
-    (ARRAY_PROTOTYPE, "reverse", LeftOut, "Array.prototype.reverse", true),
-    (ARRAY_PROTOTYPE, "indexOf", LeftOut, "Array.prototype.indexOf", true),
-    (ARRAY_PROTOTYPE, "lastIndexOf", LeftOut, "Array.prototype.lastIndexOf", true),
-    (ARRAY_PROTOTYPE, "join", LeftOut, "Array.prototype.join", true),
-    (ARRAY_PROTOTYPE, "toString", LeftOut, "Array.prototype.toString", true),
-    (ARRAY_PROTOTYPE, "sort", LeftOut, "Array.prototype.sort", true),
-    (ARRAY_PROTOTYPE, "forEach", LeftOut, "Array.prototype.forEach", true),
-    (ARRAY_PROTOTYPE, "map", LeftOut, "Array.prototype.map", true),
-    (ARRAY_PROTOTYPE, "filter", LeftOut, "Array.prototype.filter", true),
-    (ARRAY_PROTOTYPE, "some", LeftOut, "Array.prototype.some", true),
-    (ARRAY_PROTOTYPE, "every", LeftOut, "Array.prototype.every", true),
-    (ARRAY_PROTOTYPE, "reduce", LeftOut, "Array.prototype.reduce", true),
-    (ARRAY_PROTOTYPE, "reduceRight", LeftOut, "Array.prototype.reduceRight", true),
-    (ARRAY_PROTOTYPE, "toLocaleString", LeftOut, "Array.prototype.toLocaleString", true),
-    (STRING_PROTOTYPE, "constructor", LeftOut, "String", true),
-    (STRING_PROTOTYPE, "charAt", LeftOut, "String.prototype.charAt", true),
-    (STRING_PROTOTYPE, "charCodeAt", LeftOut, "String.prototype.charCodeAt", true),
-    (STRING_PROTOTYPE, "substring", LeftOut, "String.prototype.substring", true),
-    (STRING_PROTOTYPE, "slice", LeftOut, "String.prototype.slice", true),
-    (STRING_PROTOTYPE, "concat", LeftOut, "String.prototype.concat", true),
-    (STRING_PROTOTYPE, "toLowerCase", LeftOut, "String.prototype.toLowerCase", true),
-    (STRING_PROTOTYPE, "toUpperCase", LeftOut, "String.prototype.toUpperCase", true),
-    (STRING_PROTOTYPE, "trim", LeftOut, "String.prototype.trim", true),
-    (STRING_PROTOTYPE, "toString", LeftOut, "String.prototype.toString", true),
-    (STRING_PROTOTYPE, "valueOf", LeftOut, "String.prototype.valueOf", true),
-    (STRING_PROTOTYPE, "substr", LeftOut, "String.prototype.substr", true),
-    (STRING_PROTOTYPE, "indexOf", LeftOut, "String.prototype.indexOf", true),
-    (STRING_PROTOTYPE, "lastIndexOf", LeftOut, "String.prototype.lastIndexOf", true),
-    (STRING_PROTOTYPE, "split", LeftOut, "String.prototype.split", true),
-    (STRING_PROTOTYPE, "replace", LeftOut, "String.prototype.replace", true),
-    (STRING_PROTOTYPE, "match", LeftOut, "String.prototype.match", true),
-    (STRING_PROTOTYPE, "search", LeftOut, "String.prototype.search", true),
-    (STRING_PROTOTYPE, "localeCompare", LeftOut, "String.prototype.localeCompare", true),
-    (STRING_PROTOTYPE, "toLocaleLowerCase", LeftOut, "String.prototype.toLocaleLowerCase", true),
-    (STRING_PROTOTYPE, "toLocaleUpperCase", LeftOut, "String.prototype.toLocaleUpperCase", true),
-    (NUMBER_PROTOTYPE, "constructor", LeftOut, "Number", true),
-    (NUMBER_PROTOTYPE, "toString", LeftOut, "Number.prototype.toString", true),
-    (NUMBER_PROTOTYPE, "valueOf", LeftOut, "Number.prototype.valueOf", true),
-    (NUMBER_PROTOTYPE, "toFixed", LeftOut, "Number.prototype.toFixed", true),
-    (NUMBER_PROTOTYPE, "toExponential", LeftOut, "Number.prototype.toExponential", true),
-    (NUMBER_PROTOTYPE, "toPrecision", LeftOut, "Number.prototype.toPrecision", true),
-    (NUMBER_PROTOTYPE, "toLocaleString", LeftOut, "Number.prototype.toLocaleString", true),
-    (BOOLEAN_PROTOTYPE, "constructor", LeftOut, "Boolean", true),
-    (BOOLEAN_PROTOTYPE, "toString", LeftOut, "Boolean.prototype.toString", true),
-    (BOOLEAN_PROTOTYPE, "valueOf", LeftOut, "Boolean.prototype.valueOf", true),
-    (ERROR_PROTOTYPE, "constructor", Object(ERROR), "", true),
-    (ERROR_PROTOTYPE, "name", Text, "Error", true),
-    (ERROR_PROTOTYPE, "message", Text, "", true),
-    (ERROR_PROTOTYPE, "toString", Native(10), "", true),
-    (TYPE_ERROR_PROTOTYPE, "constructor", Object(TYPE_ERROR), "", true),
-    (TYPE_ERROR_PROTOTYPE, "name", Text, "TypeError", true),
-    (TYPE_ERROR_PROTOTYPE, "message", Text, "", true),
-    (RANGE_ERROR_PROTOTYPE, "constructor", Object(RANGE_ERROR), "", true),
-    (RANGE_ERROR_PROTOTYPE, "name", Text, "RangeError", true),
-    (RANGE_ERROR_PROTOTYPE, "message", Text, "", true),
-    (REFERENCE_ERROR_PROTOTYPE, "constructor", Object(REFERENCE_ERROR), "", true),
-    (REFERENCE_ERROR_PROTOTYPE, "name", Text, "ReferenceError", true),
-    (REFERENCE_ERROR_PROTOTYPE, "message", Text, "", true),
-    (MATH, "E", LeftOut, "Math.E", false),
-    (MATH, "LN10", LeftOut, "Math.LN10", false),
-    (MATH, "LN2", LeftOut, "Math.LN2", false),
-    (MATH, "LOG2E", LeftOut, "Math.LOG2E", false),
-    (MATH, "LOG10E", LeftOut, "Math.LOG10E", false),
-    (MATH, "PI", LeftOut, "Math.PI", false),
-    (MATH, "SQRT1_2", LeftOut, "Math.SQRT1_2", false),
-    (MATH, "SQRT2", LeftOut, "Math.SQRT2", false),
-    (MATH, "abs", LeftOut, "Math.abs", true),
-    (MATH, "acos", LeftOut, "Math.acos", true),
-    (MATH, "asin", LeftOut, "Math.asin", true),
-    (MATH, "atan", LeftOut, "Math.atan", true),
-    (MATH, "atan2", LeftOut, "Math.atan2", true),
-    (MATH, "ceil", LeftOut, "Math.ceil", true),
-    (MATH, "cos", LeftOut, "Math.cos", true),
-    (MATH, "exp", LeftOut, "Math.exp", true),
-    (MATH, "floor", LeftOut, "Math.floor", true),
-    (MATH, "log", LeftOut, "Math.log", true),
-    (MATH, "max", LeftOut, "Math.max", true),
-    (MATH, "min", LeftOut, "Math.min", true),
-    (MATH, "pow", LeftOut, "Math.pow", true),
-    (MATH, "random", LeftOut, "Math.random", true),
-    (MATH, "round", LeftOut, "Math.round", true),
-    (MATH, "sin", LeftOut, "Math.sin", true),
-    (MATH, "sqrt", LeftOut, "Math.sqrt", true),
-    (MATH, "tan", LeftOut, "Math.tan", true),
-    (OBJECT, "prototype", Object(OBJECT_PROTOTYPE), "", false),
-    (OBJECT, "getPrototypeOf", LeftOut, "Object.getPrototypeOf", true),
-    (OBJECT, "getOwnPropertyDescriptor", LeftOut, "Object.getOwnPropertyDescriptor", true),
-    (OBJECT, "getOwnPropertyNames", LeftOut, "Object.getOwnPropertyNames", true),
-    (OBJECT, "create", LeftOut, "Object.create", true),
-    (OBJECT, "defineProperty", LeftOut, "Object.defineProperty", true),
-    (OBJECT, "defineProperties", LeftOut, "Object.defineProperties", true),
-    (OBJECT, "seal", LeftOut, "Object.seal", true),
-    (OBJECT, "freeze", LeftOut, "Object.freeze", true),
-    (OBJECT, "preventExtensions", LeftOut, "Object.preventExtensions", true),
-    (OBJECT, "isSealed", LeftOut, "Object.isSealed", true),
-    (OBJECT, "isFrozen", LeftOut, "Object.isFrozen", true),
-    (OBJECT, "isExtensible", LeftOut, "Object.isExtensible", true),
-    (OBJECT, "keys", LeftOut, "Object.keys", true),
-    (ARRAY, "prototype", Object(ARRAY_PROTOTYPE), "", false),
-    (ARRAY, "isArray", LeftOut, "Array.isArray", true),
-    (STRING, "prototype", Object(STRING_PROTOTYPE), "", false),
-    (STRING, "fromCharCode", LeftOut, "String.fromCharCode", true),
-    (NUMBER, "prototype", Object(NUMBER_PROTOTYPE), "", false),
-    (NUMBER, "MAX_VALUE", LeftOut, "Number.MAX_VALUE", false),
-    (NUMBER, "MIN_VALUE", LeftOut, "Number.MIN_VALUE", false),
-    (NUMBER, "NaN", LeftOut, "Number.NaN", false),
-    (NUMBER, "NEGATIVE_INFINITY", LeftOut, "Number.NEGATIVE_INFINITY", false),
-    (NUMBER, "POSITIVE_INFINITY", LeftOut, "Number.POSITIVE_INFINITY", false),
-    (BOOLEAN, "prototype", Object(BOOLEAN_PROTOTYPE), "", false),
-    (ERROR, "prototype", Object(ERROR_PROTOTYPE), "", false),
-    (TYPE_ERROR, "prototype", Object(TYPE_ERROR_PROTOTYPE), "", false),
-    (RANGE_ERROR, "prototype", Object(RANGE_ERROR_PROTOTYPE), "", false),
-    (REFERENCE_ERROR, "prototype", Object(REFERENCE_ERROR_PROTOTYPE), "", false),
+pub(crate) const PROTOTYPES: &[TableObject] = &[
+    // 3: `Array.prototype`.
+    (Blank { kind: Kind::Array, prototype: Some(OBJECT_PROTOTYPE) }, ARRAY_PROTOTYPE_ROWS),
+    // 4: `String.prototype`.
+    (Blank { kind: Kind::Plain, prototype: Some(OBJECT_PROTOTYPE) }, STRING_PROTOTYPE_ROWS),
+    // 5: `Number.prototype`.
+    (Blank { kind: Kind::Plain, prototype: Some(OBJECT_PROTOTYPE) }, NUMBER_PROTOTYPE_ROWS),
+    // 6: `Boolean.prototype`.
+    (Blank { kind: Kind::Plain, prototype: Some(OBJECT_PROTOTYPE) }, BOOLEAN_PROTOTYPE_ROWS),
+    // 7: `Error.prototype`.
+    (Blank { kind: Kind::Error, prototype: Some(OBJECT_PROTOTYPE) }, ERROR_PROTOTYPE_ROWS),
+    // 8: `TypeError.prototype`.
+    (Blank { kind: Kind::Error, prototype: Some(ERROR_PROTOTYPE) }, TYPE_ERROR_PROTOTYPE_ROWS),
+    // 9: `RangeError.prototype`.
+    (Blank { kind: Kind::Error, prototype: Some(ERROR_PROTOTYPE) }, RANGE_ERROR_PROTOTYPE_ROWS),
+    // 10: `ReferenceError.prototype`.
+    (Blank { kind: Kind::Error, prototype: Some(ERROR_PROTOTYPE) }, REFERENCE_ERROR_PROTOTYPE_ROWS),
+];
+
+/// `Math` and the constructors.
+#[rattlefmt::skip]
+pub(crate) const CONSTRUCTORS: &[TableObject] = &[
+    // 11: `Math`.
+    (Blank { kind: Kind::Plain, prototype: Some(OBJECT_PROTOTYPE) }, MATH_ROWS),
+    // 12: `Object`.
+    (Blank { kind: Kind::Native(1), prototype: Some(FUNCTION_PROTOTYPE) }, OBJECT_ROWS),
+    // 13: `Array`.
+    (Blank { kind: Kind::Native(2), prototype: Some(FUNCTION_PROTOTYPE) }, ARRAY_ROWS),
+    // 14: `String`.
+    (Blank { kind: Kind::Native(3), prototype: Some(FUNCTION_PROTOTYPE) }, STRING_ROWS),
+    // 15: `Number`.
+    (Blank { kind: Kind::Native(4), prototype: Some(FUNCTION_PROTOTYPE) }, NUMBER_ROWS),
+    // 16: `Boolean`.
+    (Blank { kind: Kind::Native(5), prototype: Some(FUNCTION_PROTOTYPE) }, BOOLEAN_ROWS),
+    // 17: `Error`.
+    (Blank { kind: Kind::Native(6), prototype: Some(FUNCTION_PROTOTYPE) }, ERROR_ROWS),
+    // 18: `TypeError`.
+    (Blank { kind: Kind::Native(7), prototype: Some(FUNCTION_PROTOTYPE) }, TYPE_ERROR_ROWS),
+    // 19: `RangeError`.
+    (Blank { kind: Kind::Native(8), prototype: Some(FUNCTION_PROTOTYPE) }, RANGE_ERROR_ROWS),
+    // 20: `ReferenceError`.
+    (Blank { kind: Kind::Native(9), prototype: Some(FUNCTION_PROTOTYPE) }, REFERENCE_ERROR_ROWS),
+];
+
+#[rattlefmt::skip]
+const OBJECT_PROTOTYPE_ROWS: &[TableRow] = &[
+    ("constructor", Object(OBJECT), "", true),
+    ("toString", native!(11), "", true),
+    ("valueOf", native!(12), "", true),
+    ("hasOwnProperty", native!(26), "", true),
+    ("toLocaleString", LeftOut, "Object.prototype.toLocaleString", true),
+    ("isPrototypeOf", LeftOut, "Object.prototype.isPrototypeOf", true),
+    ("propertyIsEnumerable", LeftOut, "Object.prototype.propertyIsEnumerable", true),
+];
+
+#[rattlefmt::skip]
+const FUNCTION_PROTOTYPE_ROWS: &[TableRow] = &[
+    ("constructor", LeftOut, "Function", true),
+    ("call", LeftOut, "Function.prototype.call", true),
+    ("apply", LeftOut, "Function.prototype.apply", true),
+    ("bind", LeftOut, "Function.prototype.bind", true),
+    ("toString", LeftOut, "Function.prototype.toString", true),
+];
+
+#[rattlefmt::skip]
+const GLOBAL_ROWS: &[TableRow] = &[
+    ("undefined", Undefined, "", false),
+    ("NaN", LeftOut, "NaN", false),
+    ("Infinity", LeftOut, "Infinity", false),
+    ("eval", LeftOut, "eval", true),
+    ("parseInt", native!(49), "", true),
+    ("parseFloat", LeftOut, "parseFloat", true),
+    ("isNaN", native!(30), "", true),
+    ("isFinite", LeftOut, "isFinite", true),
+    ("encodeURI", LeftOut, "encodeURI", true),
+    ("encodeURIComponent", LeftOut, "encodeURIComponent", true),
+    ("decodeURI", LeftOut, "decodeURI", true),
+    ("decodeURIComponent", LeftOut, "decodeURIComponent", true),
+    ("escape", LeftOut, "escape", true),
+    ("unescape", LeftOut, "unescape", true),
+    ("Object", Object(OBJECT), "", true),
+    ("Function", LeftOut, "Function", true),
+    ("Array", Object(ARRAY), "", true),
+    ("String", Object(STRING), "", true),
+    ("Number", Object(NUMBER), "", true),
+    ("Boolean", Object(BOOLEAN), "", true),
+    ("Math", Object(MATH), "", true),
+    ("Date", LeftOut, "Date", true),
+    ("RegExp", LeftOut, "RegExp", true),
+    ("JSON", LeftOut, "JSON", true),
+    ("Error", Object(ERROR), "", true),
+    ("TypeError", Object(TYPE_ERROR), "", true),
+    ("RangeError", Object(RANGE_ERROR), "", true),
+    ("ReferenceError", Object(REFERENCE_ERROR), "", true),
+    ("SyntaxError", LeftOut, "SyntaxError", true),
+    ("EvalError", LeftOut, "EvalError", true),
+    ("URIError", LeftOut, "URIError", true),
+    ("isPlainHostName", native!(13), "", true),
+    ("dnsDomainIs", native!(14), "", true),
+    ("localHostOrDomainIs", native!(15), "", true),
+    ("dnsDomainLevels", native!(16), "", true),
+    ("dnsResolve", native!(17), "", true),
+    ("isResolvable", native!(18), "", true),
+    ("isInNet", native!(19), "", true),
+    ("myIpAddress", native!(20), "", true),
+    ("shExpMatch", native!(21), "", true),
+    ("alert", native!(22), "", true),
+    ("weekdayRange", native!(23), "", true),
+    ("dateRange", native!(24), "", true),
+    ("timeRange", native!(25), "", true),
+];
+
+#[rattlefmt::skip]
+const ARRAY_PROTOTYPE_ROWS: &[TableRow] = &[
+    ("constructor", Object(ARRAY), "", true),
+    ("push", native!(57), "", true),
+    ("pop", native!(58), "", true),
+    ("shift", native!(59), "", true),
+    ("unshift", native!(60), "", true),
+    ("concat", native!(61), "", true),
+    ("slice", native!(62), "", true),
+    ("splice", native!(63), "", true),
+    ("reverse", native!(64), "", true),
+    ("indexOf", native!(65), "", true),
+    ("lastIndexOf", native!(66), "", true),
+    ("join", native!(67), "", true),
+    ("toString", native!(68), "", true),
+    ("sort", LeftOut, "Array.prototype.sort", true),
+    ("forEach", LeftOut, "Array.prototype.forEach", true),
+    ("map", LeftOut, "Array.prototype.map", true),
+    ("filter", LeftOut, "Array.prototype.filter", true),
+    ("some", LeftOut, "Array.prototype.some", true),
+    ("every", LeftOut, "Array.prototype.every", true),
+    ("reduce", LeftOut, "Array.prototype.reduce", true),
+    ("reduceRight", LeftOut, "Array.prototype.reduceRight", true),
+    ("toLocaleString", LeftOut, "Array.prototype.toLocaleString", true),
+];
+
+#[rattlefmt::skip]
+const STRING_PROTOTYPE_ROWS: &[TableRow] = &[
+    ("constructor", Object(STRING), "", true),
+    ("charAt", native!(34), "", true),
+    ("charCodeAt", native!(35), "", true),
+    ("substring", native!(43), "", true),
+    ("slice", native!(40), "", true),
+    ("concat", native!(36), "", true),
+    ("toLowerCase", native!(44), "", true),
+    ("toUpperCase", native!(46), "", true),
+    ("trim", native!(47), "", true),
+    ("toString", native!(45), "", true),
+    ("valueOf", native!(48), "", true),
+    ("substr", native!(42), "", true),
+    ("indexOf", native!(37), "", true),
+    ("lastIndexOf", native!(38), "", true),
+    ("split", native!(41), "", true),
+    ("replace", native!(39), "", true),
+    ("match", LeftOut, "String.prototype.match", true),
+    ("search", LeftOut, "String.prototype.search", true),
+    ("localeCompare", LeftOut, "String.prototype.localeCompare", true),
+    ("toLocaleLowerCase", LeftOut, "String.prototype.toLocaleLowerCase", true),
+    ("toLocaleUpperCase", LeftOut, "String.prototype.toLocaleUpperCase", true),
+];
+
+#[rattlefmt::skip]
+const NUMBER_PROTOTYPE_ROWS: &[TableRow] = &[
+    ("constructor", Object(NUMBER), "", true),
+    ("toString", native!(50), "", true),
+    ("valueOf", native!(31), "", true),
+    ("toFixed", LeftOut, "Number.prototype.toFixed", true),
+    ("toExponential", LeftOut, "Number.prototype.toExponential", true),
+    ("toPrecision", LeftOut, "Number.prototype.toPrecision", true),
+    ("toLocaleString", LeftOut, "Number.prototype.toLocaleString", true),
+];
+
+#[rattlefmt::skip]
+const BOOLEAN_PROTOTYPE_ROWS: &[TableRow] = &[
+    ("constructor", Object(BOOLEAN), "", true),
+    ("toString", native!(32), "", true),
+    ("valueOf", native!(33), "", true),
+];
+
+#[rattlefmt::skip]
+const ERROR_PROTOTYPE_ROWS: &[TableRow] = &[
+    ("constructor", Object(ERROR), "", true),
+    ("name", Text, "Error", true),
+    ("message", Text, "", true),
+    ("toString", native!(10), "", true),
+];
+
+#[rattlefmt::skip]
+const TYPE_ERROR_PROTOTYPE_ROWS: &[TableRow] = &[
+    ("constructor", Object(TYPE_ERROR), "", true),
+    ("name", Text, "TypeError", true),
+    ("message", Text, "", true),
+];
+
+#[rattlefmt::skip]
+const RANGE_ERROR_PROTOTYPE_ROWS: &[TableRow] = &[
+    ("constructor", Object(RANGE_ERROR), "", true),
+    ("name", Text, "RangeError", true),
+    ("message", Text, "", true),
+];
+
+#[rattlefmt::skip]
+const REFERENCE_ERROR_PROTOTYPE_ROWS: &[TableRow] = &[
+    ("constructor", Object(REFERENCE_ERROR), "", true),
+    ("name", Text, "ReferenceError", true),
+    ("message", Text, "", true),
+];
+
+#[rattlefmt::skip]
+const MATH_ROWS: &[TableRow] = &[
+    ("E", LeftOut, "Math.E", false),
+    ("LN10", LeftOut, "Math.LN10", false),
+    ("LN2", LeftOut, "Math.LN2", false),
+    ("LOG2E", LeftOut, "Math.LOG2E", false),
+    ("LOG10E", LeftOut, "Math.LOG10E", false),
+    ("PI", LeftOut, "Math.PI", false),
+    ("SQRT1_2", LeftOut, "Math.SQRT1_2", false),
+    ("SQRT2", LeftOut, "Math.SQRT2", false),
+    ("abs", native!(51), "", true),
+    ("acos", LeftOut, "Math.acos", true),
+    ("asin", LeftOut, "Math.asin", true),
+    ("atan", LeftOut, "Math.atan", true),
+    ("atan2", LeftOut, "Math.atan2", true),
+    ("ceil", native!(55), "", true),
+    ("cos", LeftOut, "Math.cos", true),
+    ("exp", LeftOut, "Math.exp", true),
+    ("floor", native!(54), "", true),
+    ("log", LeftOut, "Math.log", true),
+    ("max", native!(52), "", true),
+    ("min", native!(53), "", true),
+    ("pow", LeftOut, "Math.pow", true),
+    ("random", LeftOut, "Math.random", true),
+    ("round", native!(56), "", true),
+    ("sin", LeftOut, "Math.sin", true),
+    ("sqrt", LeftOut, "Math.sqrt", true),
+    ("tan", LeftOut, "Math.tan", true),
+];
+
+#[rattlefmt::skip]
+const OBJECT_ROWS: &[TableRow] = &[
+    ("prototype", Object(OBJECT_PROTOTYPE), "", false),
+    ("getPrototypeOf", LeftOut, "Object.getPrototypeOf", true),
+    ("getOwnPropertyDescriptor", LeftOut, "Object.getOwnPropertyDescriptor", true),
+    ("getOwnPropertyNames", LeftOut, "Object.getOwnPropertyNames", true),
+    ("create", LeftOut, "Object.create", true),
+    ("defineProperty", LeftOut, "Object.defineProperty", true),
+    ("defineProperties", LeftOut, "Object.defineProperties", true),
+    ("seal", LeftOut, "Object.seal", true),
+    ("freeze", LeftOut, "Object.freeze", true),
+    ("preventExtensions", LeftOut, "Object.preventExtensions", true),
+    ("isSealed", LeftOut, "Object.isSealed", true),
+    ("isFrozen", LeftOut, "Object.isFrozen", true),
+    ("isExtensible", LeftOut, "Object.isExtensible", true),
+    ("keys", native!(27), "", true),
+];
+
+#[rattlefmt::skip]
+const ARRAY_ROWS: &[TableRow] = &[
+    ("prototype", Object(ARRAY_PROTOTYPE), "", false),
+    ("isArray", native!(28), "", true),
+];
+
+#[rattlefmt::skip]
+const STRING_ROWS: &[TableRow] = &[
+    ("prototype", Object(STRING_PROTOTYPE), "", false),
+    ("fromCharCode", native!(29), "", true),
+];
+
+#[rattlefmt::skip]
+const NUMBER_ROWS: &[TableRow] = &[
+    ("prototype", Object(NUMBER_PROTOTYPE), "", false),
+    ("MAX_VALUE", LeftOut, "Number.MAX_VALUE", false),
+    ("MIN_VALUE", LeftOut, "Number.MIN_VALUE", false),
+    ("NaN", LeftOut, "Number.NaN", false),
+    ("NEGATIVE_INFINITY", LeftOut, "Number.NEGATIVE_INFINITY", false),
+    ("POSITIVE_INFINITY", LeftOut, "Number.POSITIVE_INFINITY", false),
+];
+
+#[rattlefmt::skip]
+const BOOLEAN_ROWS: &[TableRow] = &[
+    ("prototype", Object(BOOLEAN_PROTOTYPE), "", false),
+];
+
+#[rattlefmt::skip]
+const ERROR_ROWS: &[TableRow] = &[
+    ("prototype", Object(ERROR_PROTOTYPE), "", false),
+];
+
+#[rattlefmt::skip]
+const TYPE_ERROR_ROWS: &[TableRow] = &[
+    ("prototype", Object(TYPE_ERROR_PROTOTYPE), "", false),
+];
+
+#[rattlefmt::skip]
+const RANGE_ERROR_ROWS: &[TableRow] = &[
+    ("prototype", Object(RANGE_ERROR_PROTOTYPE), "", false),
+];
+
+#[rattlefmt::skip]
+const REFERENCE_ERROR_ROWS: &[TableRow] = &[
+    ("prototype", Object(REFERENCE_ERROR_PROTOTYPE), "", false),
 ];
