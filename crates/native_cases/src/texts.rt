@@ -80,12 +80,17 @@ pub(crate) fn length(alloc: Global, fields: &[&str]) -> Result<String> {
     let [method, units, args @ ..] = fields else {
         bail!("a method, a length and arguments");
     };
-    let receiver = Text::from_vec(vec![in alloc; 97u16; units.parse::<usize>()?]?)?;
+    let receiver = text_of_length(alloc, units)?;
     match called(alloc, method, &receiver, args)? {
         TextResult::Text(text) => Ok(format!(in alloc; "{}", text.len())?),
         TextResult::TooLong => word(alloc, "TooLong"),
         _ => bail!("no text"),
     }
+}
+
+/// A text of so many units `a`.
+pub(crate) fn text_of_length(alloc: Global, units: &str) -> Result<Text> {
+    Ok(Text::from_vec(vec![in alloc; 97u16; units.parse::<usize>()?]?)?)
 }
 
 fn written_list(alloc: Global, texts: &TextList) -> Result<String> {

@@ -1,0 +1,202 @@
+// The elements and the length of an array.
+ghost use Rattle.std.specs.Prelude.{◌≡◌, ◌≤◌, ◌+◌, ◌⊎◌, IfOk, IfErr, OnOk, Ok, Err};
+ghost use Rattle.std.specs.Fmt.{decimal};
+ghost use Rattle.array_builtins.specs.Elements.{
+  all_put,
+  array_made,
+  cut as cut_at,
+  element as element_of,
+  length_set,
+  moved,
+  moved_backward,
+  moved_forward,
+  put_or_deleted,
+  value_found,
+};
+
+use heap_values::{BuiltIn, Found, HeapAnswer, Kind, ObjectId, Value};
+use itoa::Buffer;
+use object_heap::Heap;
+use std::alloc::Global;
+use utf16_text::{Memory, Text};
+use whole_number::Whole;
+
+const LONGEST_ARRAY: u64 = 100_000;
+
+/// The name of the element at a place.
+pub fn index_name(alloc: Global, at: u64) -> Result<Text, Memory>
+    ensures { IfOk result (λ name. name ≡ decimal at) }
+{
+    let mut digits = Buffer::new();
+    Text::from_latin_1(alloc, digits.format(at).as_bytes())
+}
+
+/// Makes an array without elements (ECMA-262 5.1, section 15.4.2.1).
+pub fn make_array(alloc: Global, heap: &mut Heap) -> Result<ObjectId, HeapAnswer>
+    ensures ok { IfOk result (λ id. array_made heap.old ≡ Ok (id, heap.new)) }
+    ensures err { IfErr result (λ e. (e ≡ HeapAnswer.Memory) ⊎ (array_made heap.old ≡ Err e)) }
+{
+    let prototype = heap.built_in(BuiltIn::ArrayPrototype);
+    heap.make(alloc, Kind::Array, Some(prototype))
+}
+
+/// The element of this name, the array's own or an inherited one.
+pub fn element(
+    alloc: Global,
+    heap: &Heap,
+    array: ObjectId,
+    name: &Text,
+) -> Result<Option<Value>, Memory>
+    ensures { IfOk result (λ v. v ≡ element_of heap.now array name.now) }
+{
+    Ok(value_in(heap.get(alloc, array, name)?))
+}
+
+fn value_in(found: Found) -> Option<Value>
+    ensures { result ≡ value_found found }
+{
+    match found {
+        Found::Value(value) => Some(value),
+        Found::LeftOut(_) => None,
+        Found::Absent => None,
+    }
+}
+
+/// Sets the length of an array. ArrayTooLong comes over 100,000.
+pub fn set_length(
+    alloc: Global,
+    heap: &mut Heap,
+    array: ObjectId,
+    length: u64,
+) -> Result<(), HeapAnswer>
+    ensures ok { OnOk result (length_set heap.old array length ≡ Ok heap.new) }
+    ensures err { IfErr result (λ e. (e ≡ HeapAnswer.Memory) ⊎ (length_set heap.old array length ≡ Err e)) }
+    ensures within { OnOk result (length ≤ 100000) }
+{
+    if length > LONGEST_ARRAY {
+        return Err(HeapAnswer::ArrayTooLong);
+    }
+    let name = Text::from_latin_1(alloc, b"length")?;
+    heap.put(
+        alloc,
+        array,
+        &name,
+        Value::Number(Whole::from(length as u32)),
+    )
+}
+
+/// Deletes the last element of an array, by its name, and sets the length.
+pub fn cut(
+    alloc: Global,
+    heap: &mut Heap,
+    array: ObjectId,
+    name: &Text,
+    length: u64,
+) -> Result<(), HeapAnswer>
+    ensures ok { OnOk result (cut_at heap.old array name.now length ≡ Ok heap.new) }
+    ensures err { IfErr result (λ e. (e ≡ HeapAnswer.Memory) ⊎ (cut_at heap.old array name.now length ≡ Err e)) }
+{
+    heap.delete(array, name);
+    set_length(alloc, heap, array, length)
+}
+
+/// Puts values at a place and behind it.
+pub fn put_all(
+    alloc: Global,
+    heap: &mut Heap,
+    array: ObjectId,
+    from: u64,
+    values: &[Value],
+) -> Result<(), HeapAnswer>
+    requires { from ≤ 4294967295 }
+    ensures ok { OnOk result (all_put heap.old array from values.now ≡ Ok heap.new) }
+    ensures err { IfErr result (λ e. (e ≡ HeapAnswer.Memory) ⊎ (all_put heap.old array from values.now ≡ Err e)) }
+{
+    let mut at = from;
+    let mut rest = values;
+    while let Some((value, others)) = rest.split_first() {
+        let name = index_name(alloc, at)?;
+        heap.put(alloc, array, &name, value.copy(alloc)?)?;
+        at += 1;
+        rest = others;
+    }
+    Ok(())
+}
+
+// Moves the element at a place to another; where none is there, nothing stays at the other.
+fn move_element(
+    alloc: Global,
+    heap: &mut Heap,
+    array: ObjectId,
+    from: u64,
+    to: u64,
+) -> Result<(), HeapAnswer>
+    ensures ok { OnOk result (moved array from to heap.old ≡ Ok heap.new) }
+    ensures err { IfErr result (λ e. (e ≡ HeapAnswer.Memory) ⊎ (moved array from to heap.old ≡ Err e)) }
+{
+    let from = index_name(alloc, from)?;
+    let to = index_name(alloc, to)?;
+    let value = element(alloc, heap, array, &from)?;
+    put_or_delete(alloc, heap, array, &to, value)
+}
+
+fn put_or_delete(
+    alloc: Global,
+    heap: &mut Heap,
+    array: ObjectId,
+    name: &Text,
+    value: Option<Value>,
+) -> Result<(), HeapAnswer>
+    ensures ok { OnOk result (put_or_deleted heap.old array name.now value ≡ Ok heap.new) }
+    ensures err { IfErr result (λ e. (e ≡ HeapAnswer.Memory) ⊎ (put_or_deleted heap.old array name.now value ≡ Err e)) }
+{
+    match value {
+        Some(value) => heap.put(alloc, array, name, value),
+        None => {
+            heap.delete(array, name);
+            Ok(())
+        }
+    }
+}
+
+/// Moves so many elements from one place on to another place on, the first one first.
+pub fn move_forward(
+    alloc: Global,
+    heap: &mut Heap,
+    array: ObjectId,
+    from: u64,
+    to: u64,
+    count: u64,
+) -> Result<(), HeapAnswer>
+    requires from_fits { from + count ≤ 18446744073709551615 }
+    requires to_fits { to + count ≤ 18446744073709551615 }
+    ensures ok { OnOk result (moved_forward heap.old array from to count ≡ Ok heap.new) }
+    ensures err { IfErr result (λ e. (e ≡ HeapAnswer.Memory) ⊎ (moved_forward heap.old array from to count ≡ Err e)) }
+{
+    for k in 0..count {
+        move_element(alloc, heap, array, from + k, to + k)?;
+    }
+    Ok(())
+}
+
+/// The same, the last one first.
+pub fn move_backward(
+    alloc: Global,
+    heap: &mut Heap,
+    array: ObjectId,
+    from: u64,
+    to: u64,
+    count: u64,
+) -> Result<(), HeapAnswer>
+    requires from_fits { from + count ≤ 18446744073709551615 }
+    requires to_fits { to + count ≤ 18446744073709551615 }
+    ensures ok { OnOk result (moved_backward heap.old array from to count ≡ Ok heap.new) }
+    ensures err { IfErr result (λ e. (e ≡ HeapAnswer.Memory) ⊎ (moved_backward heap.old array from to count ≡ Err e)) }
+{
+    let mut left = count;
+    while left > 0 {
+        left -= 1;
+        move_element(alloc, heap, array, from + left, to + left)?;
+    }
+    Ok(())
+}
