@@ -1,7 +1,6 @@
 -- Entries: the call of a function, of a native, `new`, and the load of a script (ECMA-262 5.1, sections 10.4, 10.5,
 -- 13.2 and 14). Each rule is what comes behind the charge for the entry.
-use Rattle.std.specs.Prelude.{ℕ, suc, pos, List, [], ◌∷◌, length, map, Bool, true, false, ◌||◌, if◌then◌else◌, Option, Some, None, slice_get, codes}
-use Rattle.std.specs.Fmt.{decimal}
+use Rattle.std.specs.Prelude.{ℕ, pos, List, [], ◌∷◌, length, map, Bool, true, false, ◌||◌, if◌then◌else◌, Option, Some, None, slice_get, codes}
 use Rattle.std.specs.List.{list_any}
 use Rattle.std.specs.Str.{bytes_eq}
 use Rattle.js_tree.specs.declared.place.Place.{Place}
@@ -27,8 +26,9 @@ use Rattle.object_heap.specs.Heap.{object_at, kind_in, found_of}
 use Rattle.js_convert.specs.Operators.{is_object}
 use Rattle.run_trees.specs.Runs.{pure, reading, ◌>>=◌, ◌>>◌, returning}
 use Rattle.js_evaluation.specs.State.{Does, make, make_scope, define, write_slot, built_in_object, global_object, throw_type_error}
-use Rattle.js_evaluation.specs.Objects.{Context, get, write_name, closure, arity_of, global_id}
-use Rattle.js_evaluation.specs.Natives.{native_of, native_outcome}
+use Rattle.js_evaluation.specs.Objects.{Context, get, write_name, closure, arity_of, global_id, elements_from}
+use Rattle.js_evaluation.specs.NativeTable.{native_of}
+use Rattle.js_evaluation.specs.Natives.{native_outcome}
 use Rattle.js_evaluation.specs.Conversions.{Call}
 
 -- ---- the names of a function's scope (10.5)
@@ -39,11 +39,7 @@ parameters_from cx p [] vs = pure tt
 parameters_from cx p (x ∷ xs) [] = write_name cx x value.Undefined p >> parameters_from cx p xs []
 parameters_from cx p (x ∷ xs) (v ∷ vs) = write_name cx x v p >> parameters_from cx p xs vs
 
--- the elements of the object of the arguments (10.6)
-abbrev pub elements_from : Place → ObjectId → ℕ → List Value → Does (Unit {0})
-elements_from p object i [] = pure tt
-elements_from p object i (v ∷ vs) = define object (decimal i) v true true p >> elements_from p object (suc i) vs
-
+-- the object of the arguments (10.6)
 abbrev pub arguments_object : Place → List Value → Does Value
 arguments_object p vs = do
   object ← make kind.Plain (Some (built_in_object built_in.ObjectPrototype)) p

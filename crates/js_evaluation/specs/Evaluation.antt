@@ -27,7 +27,8 @@ use Rattle.js_evaluation.specs.declared.fault.FaultCode.TheVariants as code
 use Rattle.js_evaluation.specs.State.{RunState, RunEnd, Comes, Faults, Does, fault, charge, test_text, global_object}
 use Rattle.js_evaluation.specs.Objects.{Context, global_id, is_callable}
 use Rattle.js_evaluation.specs.Conversions.{Call}
-use Rattle.js_evaluation.specs.Natives.{joined, class_of_kind}
+use Rattle.js_evaluation.specs.NativeWork.{class_of_kind}
+use Rattle.js_evaluation.specs.Natives.{joined}
 use Rattle.js_evaluation.specs.Expressions.{expression_place, expression_node, target_node, reference, write}
 use Rattle.js_evaluation.specs.Statements.{statement_place, statement_node, statements_from}
 use Rattle.js_evaluation.specs.Entries.{call_node, construct_node, load_node}

@@ -26,7 +26,7 @@ use Rattle.run_trees.specs.Runs.{pure, reading, ◌>>=◌, ◌>>◌}
 use Rattle.js_evaluation.specs.State.{Does, charge, make, make_scope, define, write_slot, test_text, built_in_object, global_object, set_base, the_base, throw_type_error, unsupported}
 use Rattle.js_evaluation.specs.Objects.{Context, get, put, test_base, delete_property, delete_bound, read_name, read_or_undefined, write_name, closure, arity_of}
 use Rattle.js_evaluation.specs.Conversions.{Call, call_value, to_number, to_text, to_bits, binary, stepped, assigned_by, type_text}
-use Rattle.js_evaluation.specs.Natives.{constructs, native_of, native_name}
+use Rattle.js_evaluation.specs.NativeTable.{constructs, native_of, native_name}
 
 -- ---- places
 

@@ -1,3 +1,4 @@
+pub mod BuiltInExamples
 pub mod Conversions
 pub mod CostExamples
 pub mod Entries
@@ -6,6 +7,8 @@ pub mod Examples
 pub mod Handed
 pub mod Expressions
 pub mod NativeExamples
+pub mod NativeTable
+pub mod NativeWork
 pub mod Natives
 pub mod Objects
 pub mod PacExamples

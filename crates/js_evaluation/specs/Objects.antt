@@ -1,5 +1,6 @@
 -- Properties of values, names in scopes, and functions as objects (ECMA-262 5.1, sections 8.7, 8.12, 10.2 and 13.2).
 use Rattle.std.specs.Prelude.{ℕ, zero, suc, pos, List, [], ◌∷◌, ◌++◌, length, Bool, true, false, ◌&&◌, ◌||◌, not, if◌then◌else◌, nat_eq, Option, Some, None, Result, Ok, Err, codes, slice_get}
+use Rattle.std.specs.Fmt.{decimal}
 use Rattle.std.specs.Str.{bytes_eq}
 use Rattle.js_tree.specs.declared.place.Place.{Place}
 use Rattle.js_tree.specs.declared.bound.Bound.{Bound}
@@ -202,6 +203,13 @@ write_name cx x v place = write_bound cx x.name x.bound v place
 abbrev pub delete_bound : List ℕ → Bound → Place → Does Value
 delete_bound name bound.Global place = delete_property (Object global_id) name place
 delete_bound name b place = pure (Truth false)
+
+-- ---- elements
+
+-- values under the indexes from one on, listed and deletable (10.6, 15.4.2.1)
+abbrev pub elements_from : Place → ObjectId → ℕ → List Value → Does (Unit {0})
+elements_from place object i [] = pure tt
+elements_from place object i (v ∷ vs) = define object (decimal i) v true true place >> elements_from place object (suc i) vs
 
 -- ---- functions (13.2)
 

@@ -1,5 +1,5 @@
 -- Worked examples of the functions of the proxy format as natives, none of which asks the host a name.
-use Rattle.std.specs.Prelude.{◌≡◌, List, [], ◌∷◌, codes, Result, Ok, refl}
+use Rattle.std.specs.Prelude.{◌≡◌, List, [], ◌∷◌, codes, Ok, refl}
 use Rattle.js_evaluation.specs.declared.fault.FaultCode.TheVariants as code
 use Rattle.js_evaluation.specs.Expressions.{expression_node}
 use Rattle.js_evaluation.specs.Statements.{statement_node}

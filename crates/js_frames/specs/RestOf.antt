@@ -1,6 +1,6 @@
 -- What each open part makes of the end that it waits for, by the rules of evaluation (ECMA-262 5.1, sections 11 to 13):
 -- what the rule of its kind does after the part within.
-use Rattle.std.specs.Prelude.{codes, ℕ, suc, ◌+◌, ◌-◌, List, [], ◌∷◌, ◌++◌, true, false, not, if◌then◌else◌, Some, pos, neg_ℤ, ◌-ℤ◌}
+use Rattle.std.specs.Prelude.{codes, ℕ, suc, ◌+◌, ◌-◌, List, [], ◌∷◌, ◌++◌, length, true, false, not, if◌then◌else◌, pos, neg_ℤ, ◌-ℤ◌}
 use Rattle.js_tree.specs.declared.place.Place.{Place}
 use Rattle.js_tree.specs.declared.operators.BinaryOp.{BinaryOp}
 use Rattle.js_tree.specs.Tree.{Suffixes, FunctionTree, expressions_of, items_of, statements_of}
@@ -17,7 +17,7 @@ use Rattle.js_evaluation.specs.Objects.{Context, get, test_base, delete_property
 use Rattle.js_evaluation.specs.Conversions as convert
 use Rattle.js_evaluation.specs.Handed as handed
 use Rattle.js_evaluation.specs.Natives as native
-use Rattle.js_evaluation.specs.PacNatives as pac
+use Rattle.js_evaluation.specs.NativeTable as table
 use Rattle.js_evaluation.specs.Expressions as expression
 use Rattle.js_evaluation.specs.Statements as statement
 use Rattle.js_evaluation.specs.Evaluation.{evaluation, most_open}
@@ -83,13 +83,15 @@ module _ (functions : List FunctionTree) (go : Within) (cx : Context) where
   with_primitive (wanted.Left op right place next) v =
       convert.to_primitive (rule.call functions go cx) convert.number_methods right place >>= (λ b. operate op v b place next)
   with_primitive (wanted.Right op left place next) v = operate op left v place next
-  with_primitive (wanted.Message prototype place) v = native.make_error prototype (Some (text_of v)) place
   with_primitive (wanted.ErrorName error place) v =
       get (value.Object error) (codes "message") place >>= (λ m. native.text_or (rule.call functions go cx) [] m place
       >>= (λ message. handed.gives_text (native.joined (text_of v) message) place))
   with_primitive (wanted.ErrorMessage name place) v = handed.gives_text (native.joined name (text_of v)) place
-  with_primitive (wanted.Argument f left done vs place) v =
-      pac.converted_from (rule.call functions go cx) f left (done ++ v ∷ []) vs place
+  with_primitive (wanted.Handed n left done handed place) v =
+      native.settled (table.conversion_at n (length done)) v place
+      >>= (λ w. native.converted_from (rule.call functions go cx) n left (done ++ w ∷ []) handed place)
+  with_primitive (wanted.Element left count array texts separator place) v =
+      native.joined_from (rule.call functions go cx) left count array (texts ++ text_of v ∷ []) separator place
 
   -- ---- expressions (11)
 

@@ -1,9 +1,9 @@
 // What an object becomes a primitive value for.
 use crate::{Aim, Reference};
-use heap_values::{BuiltIn, ObjectId, Value};
+use heap_values::{ObjectId, Value};
+use js_evaluation::Native;
 use js_tree::{BinaryOp, Operand, Place, Suffix, UpdateForm, UpdateOp};
-use pac_functions::PacFunction;
-use utf16_text::{List, Text};
+use utf16_text::{List, Text, TextList};
 
 /// The methods of an object that are still to be asked for a primitive value (ECMA-262 5.1, section 8.12.8).
 #[derive(Clone, Copy, Debug, PartialEq, Eq)]
@@ -80,11 +80,6 @@ pub enum Wanted<'p> {
         place: Place,
         next: Operated<'p>,
     },
-    /// The message of an error that is made.
-    Message {
-        prototype: BuiltIn,
-        place: Place,
-    },
     /// The name of an error that becomes a text.
     ErrorName {
         error: ObjectId,
@@ -95,12 +90,22 @@ pub enum Wanted<'p> {
         name: Text,
         place: Place,
     },
-    /// An argument of a function of the proxy format, behind those that are done; left: how many come behind it.
-    Argument {
-        function: PacFunction,
+    /// A value that is handed to a native, behind those that are done; left: how many the native takes behind it.
+    Handed {
+        native: Native,
         left: usize,
         done: List<Value>,
-        arguments: List<Value>,
+        handed: List<Value>,
+        place: Place,
+    },
+    /// An element of an array that becomes a text, of so many, behind the texts of those before; left: how many come
+    /// behind it.
+    Element {
+        left: u32,
+        count: u32,
+        array: ObjectId,
+        texts: TextList,
+        separator: Text,
         place: Place,
     },
 }

@@ -5,6 +5,7 @@ pub mod OfHanded
 pub mod OfObjects
 pub mod OfConversions
 pub mod OfPacNatives
+pub mod OfNativeWork
 pub mod OfNatives
 pub mod OfExpressions
 pub mod OfStatements

@@ -1,7 +1,6 @@
 -- Entries have one end and ask for lookup names alone, where bodies and calls do.
-use Rattle.std.proofs.Common.{ℕ, suc, pos, List, [], ◌∷◌, Bool, true, false, Option, Some, None}
+use Rattle.std.proofs.Common.{ℕ, pos, List, [], ◌∷◌, Bool, true, false, Option, Some, None}
 use Rattle.std.specs.Prelude.{length, slice_get, codes}
-use Rattle.std.specs.Fmt.{decimal}
 use Rattle.js_tree.specs.declared.place.Place.{Place}
 use Rattle.js_tree.specs.declared.bound.BoundName.{BoundName}
 use Rattle.js_tree.specs.Tree.{FunctionTree, a_function, DeclareNumbered, Statements, no_statement, a_statement}
@@ -20,11 +19,11 @@ use Rattle.heap_values.specs.declared.value.Value.TheVariants as value
 use Rattle.object_heap.specs.Heap.{object_at, kind_in, found_of}
 use Rattle.js_evaluation.specs.State.{Does, built_in_object, global_object}
 use Rattle.js_evaluation.specs.Objects.{Context, arity_of, global_id}
-use Rattle.js_evaluation.specs.Natives.{native_of}
+use Rattle.js_evaluation.specs.NativeTable.{native_of}
 use Rattle.js_evaluation.specs.Conversions.{Call}
 use Rattle.js_evaluation.specs.Entries as def
 use Rattle.js_law_evaluation.proofs.OfState.{Ends, gives, reads, ◌onto◌, ◌then◌, either, returns, make-ends, make_scope-ends, define-ends, write_slot-ends, throw_type_error-ends}
-use Rattle.js_law_evaluation.proofs.OfObjects.{get-ends, write_name-ends, closure-ends}
+use Rattle.js_law_evaluation.proofs.OfObjects.{get-ends, write_name-ends, elements_from-ends, closure-ends}
 use Rattle.js_law_evaluation.proofs.OfConversions.{CallsEnd}
 use Rattle.js_law_evaluation.proofs.OfNatives.{native_outcome-ends}
 
@@ -34,11 +33,6 @@ parameters_from-ends : (cx : Context) (p : Place) (xs : List BoundName) (vs : Li
 parameters_from-ends cx p [] vs = gives tt
 parameters_from-ends cx p (x ∷ xs) [] = write_name-ends cx x value.Undefined p then parameters_from-ends cx p xs []
 parameters_from-ends cx p (x ∷ xs) (v ∷ vs) = write_name-ends cx x v p then parameters_from-ends cx p xs vs
-
-elements_from-ends : (p : Place) (object : ObjectId) (i : ℕ) (vs : List Value) → Ends (def.elements_from p object i vs)
-elements_from-ends p object i [] = gives tt
-elements_from-ends p object i (v ∷ vs) =
-    define-ends object (decimal i) v true true p then elements_from-ends p object (suc i) vs
 
 arguments_object-ends : (p : Place) (vs : List Value) → Ends (def.arguments_object p vs)
 arguments_object-ends p vs =

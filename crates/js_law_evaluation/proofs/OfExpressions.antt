@@ -23,7 +23,7 @@ use Rattle.js_convert.specs.Texts.{text_of}
 use Rattle.js_evaluation.specs.State.{Does, built_in_object, global_object}
 use Rattle.js_evaluation.specs.Objects.{Context, arity_of}
 use Rattle.js_evaluation.specs.Conversions.{Call, assigned_by, type_text}
-use Rattle.js_evaluation.specs.Natives.{constructs, native_of}
+use Rattle.js_evaluation.specs.NativeTable.{constructs, native_of}
 use Rattle.js_evaluation.specs.Expressions as def
 use Rattle.js_evaluation.specs.Expressions.{Reference, to_name, to_property, suffix_place, referred}
 use Rattle.js_law_evaluation.proofs.OfState.{Ends, gives, halts, reads, ◌onto◌, ◌then◌, either, charges-ends, make-ends, make_scope-ends, define-ends, write_slot-ends, test_text-ends, set_base-ends, the_base-ends, throw_type_error-ends}

@@ -1,76 +1,136 @@
 -- Natives have one end and ask for lookup names alone, where calls do.
-use Rattle.std.proofs.Common.{ℕ, List, [], true, false, Option, Some, None}
-use Rattle.std.specs.Prelude.{codes}
+use Rattle.std.proofs.Common.{ℕ, zero, suc, List, [], ◌∷◌, ◌++◌, length, Bool, true, false, Option, Some, None}
+use Rattle.std.specs.Prelude.{codes, not, ◌-◌}
+use Rattle.std.specs.Fmt.{decimal}
 use Rattle.js_tree.specs.declared.place.Place.{Place}
-use Rattle.heap_values.specs.declared.ids.Kind.TheVariants as kind
 use Rattle.heap_values.specs.declared.ids.ObjectId.{ObjectId}
-use Rattle.heap_values.specs.declared.built_in.BuiltIn.{BuiltIn}
 use Rattle.heap_values.specs.declared.value.Value.{Value}
 use Rattle.heap_values.specs.declared.value.Value.TheVariants as value
-use Rattle.object_heap.specs.Heap.{object_at, kind_in}
+use Rattle.object_heap.specs.Heap.{object_at, length_of}
+use Rattle.js_convert.specs.declared.numeric.Numeric.{Numeric}
+use Rattle.js_convert.specs.declared.numeric.Numeric.TheVariants as numeric
+use Rattle.js_convert.specs.Numeric.{numeric_of}
+use Rattle.js_convert.specs.Operators.{is_text}
+use Rattle.array_builtins.specs.Joining as joining
 use Rattle.js_evaluation.specs.declared.native.Native.{Native}
 use Rattle.js_evaluation.specs.declared.native.Native.TheVariants as native
-use Rattle.js_evaluation.specs.State.{built_in_object}
+use Rattle.js_evaluation.specs.declared.native.Conversion.{Conversion}
+use Rattle.js_evaluation.specs.declared.native.Conversion.TheVariants as conversion
+use Rattle.js_evaluation.specs.Objects.{is_callable}
 use Rattle.js_evaluation.specs.Conversions.{Call}
 use Rattle.js_evaluation.specs.Handed.{argument}
-use Rattle.js_evaluation.specs.Natives.{error_with, make_error, error_prototype, joined, class_of, optional_text, text_or, error_value, error_text, object_text, native_value, native_outcome}
-use Rattle.js_law_evaluation.proofs.OfState.{Ends, gives, halts, reads, ◌onto◌, ◌then◌, make-ends, define-ends, throw_type_error-ends}
-use Rattle.js_law_evaluation.proofs.OfHanded.{gives_text-ends, given-ends}
+use Rattle.js_evaluation.specs.NativeTable.{handed_to, taken_by, conversion_at}
+use Rattle.js_evaluation.specs.NativeWork.{is_array, is_number, elements_walk, plain_walk}
+use Rattle.js_evaluation.specs.Natives as def
+use Rattle.js_law_evaluation.proofs.OfState.{Ends, gives, fails, halts, reads, either, ◌onto◌, ◌then◌, charges-ends, throw_type_error-ends}
+use Rattle.js_law_evaluation.proofs.OfHanded.{gives_text-ends}
 use Rattle.js_law_evaluation.proofs.OfObjects.{get-ends}
-use Rattle.js_law_evaluation.proofs.OfConversions.{CallsEnd, to_text-ends}
-use Rattle.js_law_evaluation.proofs.OfPacNatives.{pac_value-ends}
+use Rattle.js_law_evaluation.proofs.OfConversions.{CallsEnd, to_primitive-ends, to_text-ends}
+use Rattle.js_law_evaluation.proofs.OfPacNatives.{pac_done-ends}
+use Rattle.js_law_evaluation.proofs.OfNativeWork.{plain_work-ends}
 
-error_with-ends : (error : ObjectId) (message : Option (List ℕ)) (place : Place) → Ends (error_with error message place)
-error_with-ends error None place = gives (value.Object error)
-error_with-ends error (Some message) place =
-    define-ends error (codes "message") (value.Text message) false true place then gives (value.Object error)
+-- ---- conversions
 
-make_error-ends : (prototype : BuiltIn) (message : Option (List ℕ)) (place : Place) → Ends (make_error prototype message place)
-make_error-ends prototype message place =
-    make-ends kind.Error (Some (built_in_object prototype)) place onto (λ error. error_with-ends error message place)
+unless_wrong-ends : (b : Bool) (place : Place) → Ends (def.unless_wrong b place)
+unless_wrong-ends true place = gives tt
+unless_wrong-ends false place = throw_type_error-ends (codes "not an object") place
+
+unless_left_out-ends : (b : Bool) (n : Native) (place : Place) → Ends (def.unless_left_out b n place)
+unless_left_out-ends true n place = gives tt
+unless_left_out-ends false n place = halts _
+
+tested-ends : (n : Native) (c : Conversion) (v : Value) (place : Place) → Ends (def.tested n c v place)
+tested-ends n conversion.ThisText v place = unless_wrong-ends (is_text v) place
+tested-ends n conversion.ThisNumber v place = unless_wrong-ends (is_number v) place
+tested-ends n conversion.ThisBoolean v place = unless_wrong-ends (def.is_boolean v) place
+tested-ends n conversion.ThisArray v place = reads (λ s. unless_left_out-ends (is_array s.heap v) n place)
+tested-ends n conversion.Replacement v place = reads (λ s. unless_left_out-ends (not (is_callable s.heap v)) n place)
+tested-ends n c v place = gives tt
+
+position_of-ends : (n : Numeric) (place : Place) → Ends (def.position_of n place)
+position_of-ends (numeric.Whole n) place = gives _
+position_of-ends numeric.NotANumber place = gives _
+position_of-ends numeric.Fraction place = fails _ place
+position_of-ends numeric.Range place = fails _ place
+
+number_or_none-ends : (n : Numeric) (place : Place) → Ends (def.number_or_none n place)
+number_or_none-ends (numeric.Whole n) place = gives _
+number_or_none-ends numeric.NotANumber place = gives _
+number_or_none-ends numeric.Fraction place = fails _ place
+number_or_none-ends numeric.Range place = fails _ place
+
+settled-ends : (c : Conversion) (v : Value) (place : Place) → Ends (def.settled c v place)
+settled-ends conversion.Text v place = gives _
+settled-ends conversion.OptionalText v place = gives _
+settled-ends conversion.Replacement v place = gives _
+settled-ends conversion.Position v place = position_of-ends (numeric_of v) place
+settled-ends conversion.Number v place = number_or_none-ends (numeric_of v) place
+settled-ends c v place = gives v
 
 module _ (call : Call) (call-ends : CallsEnd call) where
-  optional_text-ends : (v : Value) (place : Place) → Ends (optional_text call v place)
-  optional_text-ends value.Undefined place = gives None
-  optional_text-ends v place = to_text-ends call call-ends v place onto (λ t. gives (Some t))
+  -- ---- joining
 
-  text_or-ends : (otherwise : List ℕ) (v : Value) (place : Place) → Ends (text_or call otherwise v place)
+  element_text-ends : (v : Value) (place : Place) → Ends (def.element_text call v place)
+  element_text-ends value.Undefined place = gives []
+  element_text-ends value.Null place = gives []
+  element_text-ends v place = to_text-ends call call-ends v place
+
+  joined_from-ends : (left count : ℕ) (array : ObjectId) (texts : List (List ℕ)) (separator : List ℕ) (place : Place)
+      → Ends (def.joined_from call left count array texts separator place)
+  joined_from-ends zero count array texts separator place = gives_text-ends (joining.joined separator texts) place
+  joined_from-ends (suc left) count array texts separator place =
+      get-ends (value.Object array) (decimal (count - suc left)) place onto (λ v. element_text-ends v place
+      onto (λ t. joined_from-ends left count array (texts ++ t ∷ []) separator place))
+
+  joined_value-ends : (v : Value) (separator : List ℕ) (place : Place) → Ends (def.joined_value call v separator place)
+  joined_value-ends (value.Object array) separator place = reads (λ s.
+      joined_from-ends (length_of (object_at s.heap array)) (length_of (object_at s.heap array)) array [] separator place)
+  joined_value-ends v separator place = gives value.Undefined
+
+  array_text-ends : (this : Value) (separator : List ℕ) (handed : List Value) (place : Place)
+      → Ends (def.array_text call this separator handed place)
+  array_text-ends this separator handed place =
+      reads (λ s. charges-ends (elements_walk s.heap handed) place) then joined_value-ends this separator place
+
+  -- ---- the text of an error
+
+  text_or-ends : (otherwise : List ℕ) (v : Value) (place : Place) → Ends (def.text_or call otherwise v place)
   text_or-ends otherwise value.Undefined place = gives otherwise
   text_or-ends otherwise v place = to_text-ends call call-ends v place
 
-  error_value-ends : (prototype : Option BuiltIn) (vs : List Value) (place : Place) → Ends (error_value call prototype vs place)
-  error_value-ends None vs place = gives value.Undefined
-  error_value-ends (Some prototype) vs place =
-      optional_text-ends (argument 0 vs) place onto (λ message. make_error-ends prototype message place)
-
-  error_text-ends : (v : Value) (place : Place) → Ends (error_text call v place)
+  error_text-ends : (v : Value) (place : Place) → Ends (def.error_text call v place)
   error_text-ends (value.Object id) place =
       get-ends (value.Object id) (codes "name") place onto (λ n. text_or-ends (codes "Error") n place
       onto (λ name. get-ends (value.Object id) (codes "message") place onto (λ m. text_or-ends [] m place
-      onto (λ message. gives_text-ends (joined name message) place))))
+      onto (λ message. gives_text-ends (def.joined name message) place))))
   error_text-ends v place = throw_type_error-ends (codes "not an object") place
 
-  object_text-ends : (v : Value) (place : Place) → Ends (object_text call v place)
-  object_text-ends (value.Object id) place =
-      reads (λ s. gives_text-ends (class_of (Some (kind_in (object_at s.heap id))) (value.Object id)) place)
-  object_text-ends v place = gives_text-ends (class_of None v) place
+  -- ---- a call
 
-  native_value-ends : (n : Native) (this : Value) (vs : List Value) (place : Place) → Ends (native_value call n this vs place)
-  native_value-ends native.FunctionPrototype this vs place = gives value.Undefined
-  native_value-ends native.Object this vs place = halts _
-  native_value-ends native.Array this vs place = halts _
-  native_value-ends native.String this vs place = halts _
-  native_value-ends native.Number this vs place = halts _
-  native_value-ends native.Boolean this vs place = halts _
-  native_value-ends native.Error this vs place = error_value-ends (error_prototype native.Error) vs place
-  native_value-ends native.TypeError this vs place = error_value-ends (error_prototype native.TypeError) vs place
-  native_value-ends native.RangeError this vs place = error_value-ends (error_prototype native.RangeError) vs place
-  native_value-ends native.ReferenceError this vs place = error_value-ends (error_prototype native.ReferenceError) vs place
-  native_value-ends native.ErrorToString this vs place = error_text-ends this place
-  native_value-ends native.ObjectToString this vs place = object_text-ends this place
-  native_value-ends native.ObjectValueOf this vs place = given-ends this place
-  native_value-ends (native.Pac f) this vs place = pac_value-ends call call-ends f vs place
+  native_done-ends : (n : Native) (vs handed : List Value) (place : Place) → Ends (def.native_done call n vs handed place)
+  native_done-ends (native.Plain n) vs handed place =
+      reads (λ s. charges-ends (plain_walk n s.heap vs (length handed)) place) then plain_work-ends n vs place
+  native_done-ends (native.Pac f) vs handed place = pac_done-ends f vs place
+  native_done-ends native.ErrorToString vs handed place = error_text-ends (argument 0 vs) place
+  native_done-ends native.ArrayJoin vs handed place = array_text-ends (argument 0 vs) (def.separator_of (argument 1 vs)) handed place
+  native_done-ends native.ArrayToString vs handed place = array_text-ends (argument 0 vs) (codes ",") handed place
 
-  pub native_outcome-ends : (n : Option Native) (this : Value) (vs : List Value) (place : Place) → Ends (native_outcome call n this vs place)
+  primitive_or_kept-ends : (c : Conversion) (v : Value) (place : Place) → Ends (def.primitive_or_kept call c v place)
+  primitive_or_kept-ends c v place =
+      either (def.is_kept c v) (gives v)
+      (to_primitive-ends call call-ends (def.methods_for c) v place onto (λ p. settled-ends c p place))
+
+  converted-ends : (n : Native) (c : Conversion) (v : Value) (place : Place) → Ends (def.converted call n c v place)
+  converted-ends n c v place = tested-ends n c v place then primitive_or_kept-ends c v place
+
+  converted_from-ends : (n : Native) (left : ℕ) (done handed : List Value) (place : Place)
+      → Ends (def.converted_from call n left done handed place)
+  converted_from-ends n zero done handed place = native_done-ends n done handed place
+  converted_from-ends n (suc left) done handed place =
+      converted-ends n (conversion_at n (length done)) (argument (length done) handed) place
+      onto (λ v. converted_from-ends n left (done ++ v ∷ []) handed place)
+
+  pub native_outcome-ends : (n : Option Native) (this : Value) (vs : List Value) (place : Place) → Ends (def.native_outcome call n this vs place)
   native_outcome-ends None this vs place = gives value.Undefined
-  native_outcome-ends (Some n) this vs place = native_value-ends n this vs place
+  native_outcome-ends (Some n) this vs place =
+      converted_from-ends n (taken_by n (length (handed_to n this vs))) [] (handed_to n this vs) place

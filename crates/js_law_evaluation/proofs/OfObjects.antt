@@ -1,6 +1,7 @@
 -- Properties, names and functions have one end and ask for lookup names alone.
-use Rattle.std.proofs.Common.{ℕ, pos, List, ◌++◌, Bool, true, false, Option, Some, None, Result, Ok, Err}
+use Rattle.std.proofs.Common.{ℕ, suc, pos, List, [], ◌∷◌, ◌++◌, Bool, true, false, Option, Some, None, Result, Ok, Err}
 use Rattle.std.specs.Prelude.{codes}
+use Rattle.std.specs.Fmt.{decimal}
 use Rattle.js_tree.specs.declared.place.Place.{Place}
 use Rattle.js_tree.specs.declared.bound.Bound.{Bound}
 use Rattle.js_tree.specs.declared.bound.Bound.TheVariants as bound
@@ -19,7 +20,7 @@ use Rattle.heap_values.specs.Views.{HeapView}
 use Rattle.heap_objects.specs.Object.{property_after}
 use Rattle.object_heap.specs.Heap.{object_at, slot_of, found_of, own_found_in, stored, deleted_of}
 use Rattle.js_evaluation.specs.State.{built_in_object}
-use Rattle.js_evaluation.specs.Objects.{Context, holder_of, own_of, found_value, get_from, get_or, get, test_base, is_fixed, written, put_on, put, truth_after, deleted_unless, delete_property, is_there, has_property, stands_among, scope_out, global_id, global_value, read_bound, read_name, read_or_undefined_by, read_or_undefined, write_bound, write_name, delete_bound, closure}
+use Rattle.js_evaluation.specs.Objects.{Context, holder_of, own_of, found_value, get_from, get_or, get, test_base, is_fixed, written, put_on, put, truth_after, deleted_unless, delete_property, is_there, has_property, stands_among, scope_out, global_id, global_value, read_bound, read_name, read_or_undefined_by, read_or_undefined, write_bound, write_name, delete_bound, elements_from, closure}
 use Rattle.js_law_evaluation.proofs.OfState.{Ends, gives, fails, halts, reads, ◌onto◌, ◌then◌, either, with_heap-ends, make-ends, define-ends, write_slot-ends, throw_error-ends, throw_type_error-ends}
 
 -- ---- properties of values
@@ -50,7 +51,7 @@ written-ends place (Ok h) = with_heap-ends h
 written-ends place (Err heap.BadLength) = throw_error-ends built_in.RangeErrorPrototype (codes "invalid array length") place
 written-ends place (Err e) = fails _ place
 
-put_on-ends : (id : ObjectId) (name : List ℕ) (v : Value) (place : Place) → Ends (put_on id name v place)
+pub put_on-ends : (id : ObjectId) (name : List ℕ) (v : Value) (place : Place) → Ends (put_on id name v place)
 put_on-ends id name v place = reads (λ s. either (is_fixed s.heap id name) (gives tt) (written-ends place (stored s.heap id name v (property_after v))))
 
 pub put-ends : (base : Value) (name : List ℕ) (v : Value) (place : Place) → Ends (put base name v place)
@@ -68,7 +69,7 @@ pub delete_property-ends : (base : Value) (name : List ℕ) (place : Place) → 
 delete_property-ends (Object id) name place = reads (λ s. deleted_unless-ends (own_found_in (object_at s.heap id) name) id name place)
 delete_property-ends base name place = gives _
 
-is_there-ends : (f : Found) (place : Place) → Ends (is_there f place)
+pub is_there-ends : (f : Found) (place : Place) → Ends (is_there f place)
 is_there-ends found.Absent place = gives _
 is_there-ends (found.Value v) place = gives _
 is_there-ends (found.LeftOut name) place = halts _
@@ -115,6 +116,13 @@ write_name-ends cx x v place = write_bound-ends cx x.name x.bound v place
 pub delete_bound-ends : (name : List ℕ) (b : Bound) (place : Place) → Ends (delete_bound name b place)
 delete_bound-ends name bound.Global place = delete_property-ends (Object global_id) name place
 delete_bound-ends name b place = gives (Truth false)
+
+-- ---- elements
+
+pub elements_from-ends : (place : Place) (object : ObjectId) (i : ℕ) (vs : List Value) → Ends (elements_from place object i vs)
+elements_from-ends place object i [] = gives tt
+elements_from-ends place object i (v ∷ vs) =
+    define-ends object (decimal i) v true true place then elements_from-ends place object (suc i) vs
 
 -- ---- functions
 

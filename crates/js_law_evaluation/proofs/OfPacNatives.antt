@@ -1,6 +1,5 @@
 -- The functions of the proxy format have one end and ask for lookup names alone, where calls do.
-use Rattle.std.proofs.Common.{◌≡◌, ℕ, refl, ◌∙◌, List, [], ◌∷◌, ◌++◌, Option, Some, None}
-use Rattle.std.specs.Prelude.{zero, suc, length}
+use Rattle.std.proofs.Common.{◌≡◌, refl, ◌∙◌, List}
 use Rattle.js_tree.specs.declared.place.Place.{Place}
 use Rattle.heap_values.specs.declared.value.Value.{Value}
 use Rattle.run_trees.specs.RunTree.{RunTree, Walked, Ended, Stopped, walk}
@@ -9,15 +8,12 @@ use Rattle.run_trees.specs.OneEnd.{PartEnd, Misses, followed, HasOneEnd}
 use Rattle.pac_functions.specs.declared.call.PacFunction.{PacFunction}
 use Rattle.pac_functions.specs.Addresses.{PacEnd, Gives, AsksTooMany}
 use Rattle.pac_functions.specs.Call.{pac_call}
-use Rattle.js_evaluation.specs.Conversions.{Call, text_methods}
-use Rattle.js_evaluation.specs.Handed.{argument}
-use Rattle.js_evaluation.specs.PacNatives.{named, pac_walk, followed_by, pac_end, pac_work, pac_done, converted_from, pac_value_by, pac_value}
+use Rattle.js_evaluation.specs.PacNatives.{pac_walk, followed_by, pac_end, pac_work, pac_done}
 use Rattle.js_evaluation.proofs.Following.{walked_on, walks_on}
 use Rattle.js_law_evaluation.proofs.Asking.{asking-followed_by}
 use Rattle.js_law_evaluation.proofs.PacAsking.{call-asks}
-use Rattle.js_law_evaluation.proofs.OfState.{Ends, fails, ◌onto◌, ◌then◌, charges-ends}
+use Rattle.js_law_evaluation.proofs.OfState.{Ends, fails, ◌then◌, charges-ends}
 use Rattle.js_law_evaluation.proofs.OfHanded.{given-ends}
-use Rattle.js_law_evaluation.proofs.OfConversions.{CallsEnd, to_primitive-ends}
 
 -- ---- a tree, and what comes after its end
 
@@ -58,23 +54,5 @@ pac_work-ends f vs place =
           (λ end. (pac_end-ends place end).asks after rest state);
     }
 
-pac_done-ends : (f : PacFunction) (vs : List Value) (place : Place) → Ends (pac_done f vs place)
+pub pac_done-ends : (f : PacFunction) (vs : List Value) (place : Place) → Ends (pac_done f vs place)
 pac_done-ends f vs place = charges-ends (pac_walk f vs) place then pac_work-ends f vs place
-
--- ---- arguments
-
-module _ (call : Call) (call-ends : CallsEnd call) where
-  converted_from-ends : (f : PacFunction) (left : ℕ) (done vs : List Value) (place : Place)
-      → Ends (converted_from call f left done vs place)
-  converted_from-ends f zero done vs place = pac_done-ends f done place
-  converted_from-ends f (suc left) done vs place =
-      to_primitive-ends call call-ends text_methods (argument (length done) vs) place
-      onto (λ v. converted_from-ends f left (done ++ v ∷ []) vs place)
-
-  pac_value_by-ends : (count : Option ℕ) (f : PacFunction) (vs : List Value) (place : Place)
-      → Ends (pac_value_by call count f vs place)
-  pac_value_by-ends None f vs place = pac_done-ends f vs place
-  pac_value_by-ends (Some count) f vs place = converted_from-ends f count [] vs place
-
-  pub pac_value-ends : (f : PacFunction) (vs : List Value) (place : Place) → Ends (pac_value call f vs place)
-  pac_value-ends f vs place = pac_value_by-ends (named f) f vs place
