@@ -26,17 +26,10 @@ use Rattle.js_machine.specs.declared.now.Now.{Now}
 use Rattle.js_machine.specs.declared.now.Now.TheVariants as now
 use Rattle.js_machine.specs.Moves.{Moves, at, functions_of, inner, left, run_state, weight, beside_of}
 use Rattle.js_evaluation.specs.Objects.{Context, get}
-use Rattle.js_evaluation.specs.Conversions.{text_methods}
-use Rattle.js_evaluation.specs.Handed.{argument, gives_text}
-use Rattle.js_evaluation.specs.Natives.{joined, make_error, optional_text, text_or}
 use Rattle.js_frames.specs.Parts.{context_of}
 use Rattle.js_frames.specs.RestOf.{rest_of}
 use Rattle.js_evaluation.specs.Evaluation as evaluation
 use Rattle.js_frames.specs.Rules as rule
-use Rattle.js_frames.specs.declared.wanted.Wanted.TheVariants as wanted
-use Rattle.js_expressions.specs.Primitives.{primitive}
-use Rattle.js_entries.specs.Natives.{class_in, error_value, name_or_error, object_text, plain_error, text_of_error}
-use Rattle.js_entries.proofs.Texts.{class_then, message_then, name_then}
 use Rattle.js_machine.proofs.Steps.{with_heap, works_stops}
 use Rattle.heap_steps.proofs.Chains.{chained, stops}
 use Rattle.js_entries.specs.Names.{bound}
@@ -107,24 +100,6 @@ module _ {A : Type 0} (made : Option ObjectId) (part : Does A) (next : A → Doe
   entry_stops (Ok what) e i w = absurd i
   entry_stops (Err x) e i w = subst (λ y. Moves (λ after. (part >>= next) (given_to made after)) m (Err y) (with_heap m h)) (sym i) (stopped e w)
 
--- ---- parts at the end of a rule
-
--- a part that gives the value with which the rule ends
-pub gives_back : (part : Does Value) (v : Value) (m : Machine) (h : HeapView) → Works part m.state.heap (Ok v) h → Moves part m (Ok (now.Back (Ok v))) (with_heap m h)
-gives_back part v m h w = record { goes = λ last. w.is _ _ _; light = omega arith }
-
-last_stops : (part : Does Value) (m : Machine) (h : HeapView) (e : Halt) → Works part m.state.heap (Err e) h → Moves part m (Err e) (with_heap m h)
-last_stops part m h (halt.Throw t) w = record { goes = λ last. w.is _ _ _; light = omega arith }
-last_stops part m h (halt.Fault c place) w = record { goes = λ last. w.is _ _ _; light = tt }
-last_stops part m h (halt.LeftOut name place) w = record { goes = λ last. w.is _ _ _; light = tt }
-last_stops part m h halt.Memory w = record { goes = λ last. tt; light = tt }
-
--- one that stops
-pub gives_stops : (part : Does Value) (m : Machine) (h : HeapView) (r : Result Now Halt) (e : Halt) → IsErrAnd r (λ x. x ≡ e) → Works part m.state.heap (Err e) h
-    → Moves part m r (with_heap m h)
-gives_stops part m h (Ok what) e i w = absurd i
-gives_stops part m h (Err x) e i w = subst (λ y. Moves part m (Err y) (with_heap m h)) (sym i) (last_stops part m h e w)
-
 -- ---- calls
 
 module _ (m : Machine) (made : Option ObjectId) (around : ScopeId) (this : Value) (vs : List Value) (p : Place) where
@@ -189,33 +164,3 @@ module _ (a b : Does (Unit {0})) (c : Does Value) (m : Machine) where
     pub loads : (q : Does Value) (n m' : Machine) → Works b h (Ok tt) h' → ((last : AfterValue) → left last (with_heap m h') c ≡ left last n q) → weight n ≡ weight m
         → Moves q n r m' → Moves (a >> b >> c) m r m'
     loads q n m' w same even k = moves_from r (λ last. done.is _ _ _ ∙ w.is _ _ _ ∙ same last) even k
-
--- ---- natives
-
-module _ (m : Machine) (place : Place) (r : Result Now Halt) (m' : Machine) where
-  -- the name of an error is read, and becomes a text
-  pub name_moves : (error : ObjectId) (v : Value) (h : HeapView) → Works (get (value.Object error) (codes "name") place) m.state.heap (Ok v) h
-      → Moves (at (with_heap m h) primitive text_methods (name_or_error v) place (wanted.ErrorName error place)) (with_heap m h) r m'
-      → Moves (at m text_of_error error place) m r m'
-  name_moves error v h w k = moves_from r
-      (λ last. w.is _ _ _ ∙ name_then (rule.call (functions_of m) (inner m) (context_of m.context)) place
-      (λ name. get (value.Object error) (codes "message") place >>= (λ message. text_or (rule.call (functions_of m) (inner m) (context_of m.context)) [] message place
-      >>= (λ text. gives_text (joined name text) place)))
-      (rest_of (functions_of m) last m.frames) v (state_with h m.state.fuel (beside_of m.state))) refl k
-
-  pub message_moves : (prototype : BuiltIn) (vs : List Value) → (argument 0 vs ≡ value.Undefined → ⊥)
-      → Moves (at m primitive text_methods (argument 0 vs) place (wanted.Message prototype place)) m r m' → Moves (at m error_value prototype vs place) m r m'
-  message_moves prototype vs n k = moves_from r
-      (λ last. message_then (rule.call (functions_of m) (inner m) (context_of m.context)) place (λ message. make_error prototype message place)
-      (rest_of (functions_of m) last m.frames) (argument 0 vs) (run_state m.state) n) refl k
-
-  pub undefined_moves : (prototype : BuiltIn) (vs : List Value) → argument 0 vs ≡ value.Undefined
-      → Moves (plain_error prototype place) m r m' → Moves (at m error_value prototype vs place) m r m'
-  undefined_moves prototype vs e k = moves_from r
-      (λ last. ap (λ v. (optional_text (rule.call (functions_of m) (inner m) (context_of m.context)) v place >>= (λ message. make_error prototype message place))
-      (rest_of (functions_of m) last m.frames) (run_state m.state)) e) refl k
-
-  pub class_moves : (v : Value) → Moves (gives_text (class_in m.state.heap v) place) m r m' → Moves (at m object_text v place) m r m'
-  class_moves v k = moves_from r
-      (λ last. class_then (rule.call (functions_of m) (inner m) (context_of m.context)) m.state.heap m.state.fuel (beside_of m.state) v place
-      (rest_of (functions_of m) last m.frames)) refl k

@@ -1,4 +1,3 @@
 pub mod Entering
 pub mod Properties
 pub mod Steps
-pub mod Texts

@@ -6,7 +6,6 @@ use Rattle.std.specs.Slice.{IsItemAt}
 use Rattle.std.proofs.lemmas.Option.{slice_get-map, slice_get_past, slice_get_read}
 use Rattle.js_tree.specs.declared.expression.Function.{Function}
 use Rattle.js_tree.specs.View.{function_of}
-use Rattle.std.specs.Fmt.{decimal}
 use Rattle.std.specs.Result.{IsErrAnd}
 use Rattle.std.specs.Str.{bytes_eq}
 use Rattle.js_tree.specs.declared.place.Place.{Place}
@@ -24,10 +23,10 @@ use Rattle.heap_steps.specs.declared.halt.Halt.{Halt}
 use Rattle.heap_steps.specs.Works.{Works}
 use Rattle.heap_steps.proofs.Chains.{chained, stops}
 use Rattle.js_evaluation.specs.State.{Does, built_in_object, define, make}
-use Rattle.js_evaluation.specs.Objects.{Context, write_name}
+use Rattle.js_evaluation.specs.Objects.{Context, write_name, elements_from}
 use Rattle.js_binding.specs.Names.{arguments_name}
 use Rattle.js_binding.specs.Scopes.{place_of}
-use Rattle.js_evaluation.specs.Entries.{arguments_at, arguments_if, arguments_object, elements_from, has_own_arguments, parameters_from, functions_from}
+use Rattle.js_evaluation.specs.Entries.{arguments_at, arguments_if, arguments_object, has_own_arguments, parameters_from, functions_from}
 use Rattle.js_evaluation.specs.Handed.{argument}
 use Rattle.js_entries.specs.Names.{arguments_in, bound, declared_in, function_bound, function_in, place_from}
 use Rattle.js_entries.specs.Globals.{Body, declare_variable, function_declared, functions_declared, variables_declared}
@@ -86,24 +85,10 @@ module _ (functions : List FunctionTree) (body : Body) (s : StatementTree) (ss :
       → Works (functions_declared functions body (a_statement s ss)) h r h'
   global_stops e i one = first_stops _ _ _ (globals_step functions body s ss) h h' r e i one
 
--- an element of the object of the arguments
-pub elements_step : (p : Place) (object : ObjectId) (i : ℕ) (v : Value) (vs : List Value)
-    → elements_from p object i (v ∷ vs) ≡ (define object (decimal i) v true true p >> elements_from p object (i + 1) vs)
-elements_step p object i v vs = let next : suc i ≡ i + 1 = omega arith in
-    ap (λ (n : ℕ). define object (decimal i) v true true p >> elements_from p object n vs) next
-
 -- a variable of a script
 pub variables_step : (functions : List FunctionTree) (body : Body) (name : List ℕ) (names : List (List ℕ))
     → variables_declared functions body (name ∷ names) ≡ (declare_variable functions body name >> variables_declared functions body names)
 variables_step functions body name names = refl
-
-module _ (p : Place) (object : ObjectId) (i : ℕ) (v : Value) (vs : List Value) (h h' : HeapView) (r : Result (Unit {0}) Halt) where
-  pub element_then : (h'' : HeapView) → Works (define object (decimal i) v true true p) h (Ok tt) h' → Works (elements_from p object (i + 1) vs) h' r h''
-      → Works (elements_from p object i (v ∷ vs)) h r h''
-  element_then h'' one two = first_then _ _ _ (elements_step p object i v vs) h h' r h'' one two
-
-  pub element_stops : (e : Halt) → IsErrAnd r (λ y. y ≡ e) → Works (define object (decimal i) v true true p) h (Err e) h' → Works (elements_from p object i (v ∷ vs)) h r h'
-  element_stops e i' one = first_stops _ _ _ (elements_step p object i v vs) h h' r e i' one
 
 module _ (functions : List FunctionTree) (body : Body) (name : List ℕ) (names : List (List ℕ)) (h h' : HeapView) (r : Result (Unit {0}) Halt) where
   pub variable_then : (h'' : HeapView) → Works (declare_variable functions body name) h (Ok tt) h' → Works (variables_declared functions body names) h' r h''

@@ -1,4 +1,3 @@
 pub mod Entries
 pub mod Globals
 pub mod Names
-pub mod Natives

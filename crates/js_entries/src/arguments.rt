@@ -1,29 +1,20 @@
 // The object of the arguments (ECMA-262 5.1, sections 10.5, steps 6 and 7, and 10.6).
 ghost use Rattle.std.specs.Prelude.{◌≡◌, ◌+◌, IfOk, map, true};
-ghost use Rattle.std.specs.Fmt.{decimal};
 ghost use Rattle.std.specs.Str.{bytes_eq};
 ghost use Rattle.js_tree.specs.Tree.{statements_of};
 ghost use Rattle.js_binding.specs.Names.{arguments_name, declared_function, functions_of};
 ghost use Rattle.js_binding.specs.Scopes.{place_of};
 ghost use Rattle.js_evaluation.specs.Entries as entry;
-ghost use Rattle.js_evaluation.specs.State.{define};
 ghost use Rattle.heap_steps.specs.Works.{Works};
 ghost use Rattle.js_entries.specs.Names as spec;
 
-use heap_steps::{Halt, count_of, define, define_as, make_by};
+use heap_steps::{Halt, count_of, define_as, make_by};
 use heap_values::{BuiltIn, Kind, ObjectId, ScopeId, Value};
-use js_convert::to_text;
+use js_natives::define_elements;
 use js_tree::{BoundName, Function, FunctionPart, Place, Statement, StatementNode};
 use object_heap::{Heap, Marks};
 use std::alloc::Global;
 use utf16_text::{Memory, Text};
-use whole_number::Whole;
-
-/// The marks of an element.
-const ELEMENT: Marks = Marks {
-    listed: true,
-    deletable: true,
-};
 
 /// The marks of the length.
 const LENGTH: Marks = Marks {
@@ -167,40 +158,6 @@ fn arguments_object(
     define_as(alloc, heap, object, b"length", length, LENGTH, place)?;
     define_elements(alloc, heap, object, arguments, place)?;
     Ok(Value::Object(object))
-}
-
-fn define_elements(
-    alloc: Global,
-    heap: &mut Heap,
-    object: ObjectId,
-    arguments: &[Value],
-    place: Place,
-) -> Result<(), Halt>
-    ensures { Works (entry.elements_from place object 0 arguments.now) heap.old result heap.new }
-{
-    let mut index: u32 = 0;
-    let mut left = arguments;
-    while let [argument, rest @ ..] = left {
-        define_element(alloc, heap, object, index, argument, place)?;
-        index = next(index)?;
-        left = rest;
-    }
-    Ok(())
-}
-
-fn define_element(
-    alloc: Global,
-    heap: &mut Heap,
-    object: ObjectId,
-    index: u32,
-    argument: &Value,
-    place: Place,
-) -> Result<(), Halt>
-    ensures { Works (define object (decimal index) argument.now true true place) heap.old result heap.new }
-{
-    let name = to_text(alloc, &Value::Number(Whole::from(index)))?;
-    let value = argument.copy(alloc)?;
-    define(alloc, heap, object, &name, value, ELEMENT, place)
 }
 
 /// The next number. Memory comes past 32 bits, which nothing in memory needs.

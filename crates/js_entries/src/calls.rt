@@ -7,11 +7,11 @@ ghost use Rattle.js_entries.specs.Entries as spec;
 
 use crate::bodies::{enter_body, nothing};
 use crate::names::{bind_names, function_at};
-use crate::natives::native_call;
 use heap_steps::{get, make, make_scope};
 use heap_values::{BuiltIn, Kind, ObjectId, ScopeId, Value};
 use js_frames::Context;
 use js_machine::{Machine, Now, Step};
+use js_native_calls::native_call;
 use js_tree::{Function, Place};
 use object_heap::Heap;
 use utf16_text::{List, Memory, Text};

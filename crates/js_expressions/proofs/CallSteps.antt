@@ -20,8 +20,8 @@ use Rattle.js_machine.specs.declared.machine.Machine.{Machine}
 use Rattle.js_machine.specs.declared.now.Now.{Now}
 use Rattle.js_machine.specs.Moves.{Moves, at, called, run_state}
 use Rattle.js_expressions.specs.Suffixes.{call_value}
-use Rattle.js_expressions.proofs.Objects.{called_value, uncalled_value}
-use Rattle.js_expressions.proofs.Steps.{moves_as}
+use Rattle.js_native_calls.proofs.Objects.{called_value, uncalled_value}
+use Rattle.js_native_calls.proofs.Steps.{moves_as}
 
 module _ (m : Machine) (purpose : Aim) (this callee : Value) (vs : List Value) (place : Place) (rest : Bor (List Suffix)) (r : Result Now Halt) (m' : Machine) where
   abbrev behind : AfterValue → AfterValue

@@ -17,8 +17,8 @@ use Rattle.js_machine.specs.declared.machine.Machine.{Machine}
 use Rattle.js_machine.specs.declared.now.Now.{Now}
 use Rattle.js_machine.specs.Moves.{Moves, at, run_state}
 use Rattle.js_expressions.specs.Operators.{instance_of, instance_by}
-use Rattle.js_expressions.proofs.Objects.{called_true, called_none}
-use Rattle.js_expressions.proofs.Steps.{moves_as}
+use Rattle.js_native_calls.proofs.Objects.{called_true, called_none}
+use Rattle.js_native_calls.proofs.Steps.{moves_as}
 
 module _ (m : Machine) (v f : Value) (place : Place) (next : Operated) (r : Result Now Halt) (m' : Machine) where
   by_test : {b : Bool} → is_callable m.state.heap f ≡ b → (after : AfterValue)

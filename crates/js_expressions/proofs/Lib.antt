@@ -1,13 +1,8 @@
 pub mod Binary
 pub mod CallSteps
-pub mod Converting
 pub mod FunctionValues
 pub mod Instances
-pub mod Methods
 pub mod Nodes
 pub mod Objects
-pub mod Steps
 pub mod SuffixSteps
-pub mod Texts
-pub mod Walks
 pub mod Wholes

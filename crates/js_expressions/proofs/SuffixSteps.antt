@@ -28,7 +28,7 @@ use Rattle.js_machine.specs.declared.now.Now.{Now}
 use Rattle.js_machine.specs.Moves.{Moves, at, functions_of, inner}
 use Rattle.js_machine.proofs.Steps.{with_heap, works_then, works_stops}
 use Rattle.js_expressions.specs.Suffixes.{is_last, member}
-use Rattle.js_expressions.proofs.Steps.{with_fuel, charged, spent}
+use Rattle.js_native_calls.proofs.Steps.{with_fuel, charged, spent}
 
 module _ (functions : List FunctionTree) (go : Within) (cx : Context) where
   -- a suffix, and then those behind it

@@ -2,14 +2,11 @@
 use Rattle.std.specs.Prelude.{ℕ, List}
 use Rattle.js_tree.specs.declared.place.Place.{Place}
 use Rattle.js_tree.specs.Tree.{FunctionTree}
-use Rattle.heap_values.specs.declared.ids.ObjectId.{ObjectId}
 use Rattle.heap_values.specs.declared.value.Value.{Value}
-use Rattle.pac_functions.specs.declared.call.PacFunction.{PacFunction}
 use Rattle.run_trees.specs.Runs.{◌>>=◌}
 use Rattle.js_evaluation.specs.State.{Does}
 use Rattle.js_evaluation.specs.Objects.{Context}
 use Rattle.js_evaluation.specs.Conversions as convert
-use Rattle.js_evaluation.specs.PacNatives as pac
 use Rattle.js_frames.specs.declared.wanted.Wanted.{Wanted}
 use Rattle.js_frames.specs.RestOf.{with_primitive}
 use Rattle.js_frames.specs.Rules as rule
@@ -18,9 +15,3 @@ use Rattle.js_frames.specs.Rules.{Within}
 module _ (functions : List FunctionTree) (go : Within) (cx : Context) where
   abbrev pub primitive : List (List ℕ) → Value → Place → Wanted → Does Value
   primitive methods value place wanted = convert.to_primitive (rule.call functions go cx) methods value place >>= with_primitive functions go cx wanted
-
-  abbrev pub converted : List (List ℕ) → ObjectId → Place → Wanted → Does Value
-  converted methods object place wanted = convert.primitive_by (rule.call functions go cx) methods object place >>= with_primitive functions go cx wanted
-
-  abbrev pub arguments_converted : PacFunction → ℕ → List Value → List Value → Place → Does Value
-  arguments_converted = pac.converted_from (rule.call functions go cx)

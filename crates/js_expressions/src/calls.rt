@@ -6,11 +6,11 @@ ghost use Rattle.js_frames.specs.declared.expression_frame.SuffixFrame.TheVarian
 ghost use Rattle.js_machine.specs.Moves.{Moves, at};
 ghost use Rattle.js_expressions.specs.Suffixes as spec;
 
-use crate::errors::type_error;
 use heap_steps::callable;
 use heap_values::Value;
 use js_frames::{Aim, Frame, SuffixFrame};
 use js_machine::{Machine, Step};
+use js_native_calls::type_error;
 use js_tree::{Expression, ExpressionList, Place, Suffix};
 use utf16_text::List;
 

@@ -1,7 +1,5 @@
 // `new` (ECMA-262 5.1, section 11.2.2).
-ghost use Rattle.std.specs.Prelude.{◌≡◌};
 ghost use Rattle.heap_values.specs.declared.ids.Kind.TheVariants as kind;
-ghost use Rattle.js_evaluation.specs.Natives as natives;
 ghost use Rattle.js_tree.specs.Tree.{expressions_of};
 ghost use Rattle.js_frames.specs.Rules as rule;
 ghost use Rattle.js_frames.specs.RestOf.{after_expression};
@@ -9,13 +7,12 @@ ghost use Rattle.js_frames.specs.declared.expression_frame.ExpressionFrame.TheVa
 ghost use Rattle.js_machine.specs.Moves.{Moves, at};
 ghost use Rattle.js_expressions.specs.Creation as spec;
 
-use crate::errors::type_error;
 use heap_steps::Halt;
 use heap_values::{Kind, ObjectId, Value};
-use js_evaluation::Native;
 use js_frames::{ExpressionFrame, Frame};
 use js_machine::{Machine, Step};
-use js_natives::{constructs, name_of, native_of};
+use js_native_calls::type_error;
+use js_native_table::{constructs, native_name, native_of};
 use js_tree::{Expression, Place};
 use utf16_text::{List, Text};
 
@@ -141,14 +138,4 @@ fn native_constructed<'p>(
     }
     let name = Text::from_latin_1(machine.alloc, native_name(native))?;
     Err(Halt::LeftOut { name, place })
-}
-
-/// The name by which a fault speaks of a native; nothing where there is none.
-fn native_name(native: Option<Native>) -> &'static [u8]
-    ensures { result.now ≡ natives.native_name native }
-{
-    match native {
-        None => b"",
-        Some(native) => name_of(native),
-    }
 }

@@ -1,15 +1,14 @@
 //! What the machine does at expressions (ECMA-262 5.1, section 11): a function for each rule, and for what comes back.
 //!
-//! Each goes on from the machine as evaluation does from its rule. It stands on the machine.
+//! Each goes on from the machine as evaluation does from its rule. It stands on the machine, and on calls of built-in
+//! functions for objects that become primitive values.
 #![tactic(auto)]
 
-mod arguments;
 mod assignments;
 mod back;
 mod calls;
 mod choices;
 mod creation;
-mod errors;
 mod expression;
 mod functions;
 mod literals;
@@ -20,8 +19,6 @@ mod suffixes;
 mod unary;
 mod updates;
 
-pub use arguments::{arguments_converted, host_call};
 pub use back::{expression_back, suffix_back};
-pub use errors::{error_named, joined};
 pub use expression::{expression_node, target_node};
 pub use primitives::{method_done, primitive};

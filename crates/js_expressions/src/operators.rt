@@ -10,14 +10,13 @@ ghost use Rattle.js_frames.specs.declared.wanted.Wanted.TheVariants as wanted;
 ghost use Rattle.js_machine.specs.Moves.{Moves, at};
 ghost use Rattle.js_expressions.specs.Operators as spec;
 
-use crate::errors::type_error;
-use crate::primitives::convert;
 use crate::rows::operands_from;
 use heap_steps::{callable, get, has_property, operate, stands_among};
 use heap_values::{ObjectId, Value};
 use js_convert::to_text;
 use js_frames::{Methods, Operated, Wanted};
 use js_machine::{Machine, Now, Step, write_reference};
+use js_native_calls::{convert, type_error};
 use js_tree::{BinaryOp, Place};
 use utf16_text::Text;
 

@@ -1,5 +1,5 @@
 // Objects as primitive values (ECMA-262 5.1, sections 8.12.8 and 9.1), and what these are wanted for.
-ghost use Rattle.std.specs.Prelude.{◌≡◌, ◌∷◌, [], MatchOption, Ok, neg_ℤ, negsuc, ◌-ℤ◌};
+ghost use Rattle.std.specs.Prelude.{◌≡◌, Ok, neg_ℤ, negsuc, ◌-ℤ◌};
 ghost use Rattle.js_frames.specs.Parts.{names_of};
 ghost use Rattle.js_frames.specs.RestOf.{with_primitive};
 ghost use Rattle.js_frames.specs.declared.frame.Frame.TheVariants as frame;
@@ -8,18 +8,16 @@ ghost use Rattle.js_machine.specs.declared.machine.Machine.{Machine};
 ghost use Rattle.js_machine.specs.Moves.{Moves, at, resumed};
 ghost use Rattle.js_expressions.specs.Primitives as spec;
 
-use crate::arguments::argument_converted;
-use crate::errors::{error_by, error_named, error_text, type_error};
 use crate::operators::{operated, right_operand, with_in};
 use crate::suffixes::suffixes_from;
 use crate::updates::update_by;
-use heap_steps::{bits_or_fault, callable, get, number_or_fault};
+use heap_steps::{bits_or_fault, get, number_or_fault};
 use heap_values::{ObjectId, Value};
 use js_convert::{to_number, to_text};
 use js_frames::{Aim, Frame, Methods, Wanted};
 use js_machine::{Machine, Now, Step};
+use js_native_calls::{convert, element_converted, error_message, error_named, value_converted};
 use js_tree::{Place, Suffix};
-use utf16_text::{List, Text};
 use whole_number::Whole;
 
 /// A primitive value, for what it is wanted for: an object is asked by its methods.
@@ -36,51 +34,6 @@ pub fn primitive<'p>(
         Value::Object(object) => convert(machine, methods, object, place, wanted),
         value => primitive_done(machine, wanted, value),
     }
-}
-
-/// The next of the methods that are to be asked, and those behind it.
-fn next_method(methods: Methods) -> Option<(&'static [u8], Methods)>
-    ensures { MatchOption result (names_of methods ≡ []) (λ next. names_of methods ≡ next.0.now ∷ names_of next.1) }
-{
-    match methods {
-        Methods::ForNumber => Some((b"valueOf", Methods::ToString)),
-        Methods::ForText => Some((b"toString", Methods::ValueOf)),
-        Methods::ToString => Some((b"toString", Methods::None)),
-        Methods::ValueOf => Some((b"valueOf", Methods::None)),
-        Methods::None => None,
-    }
-}
-
-/// Asks the methods of an object in their order. One counts where it can be called.
-pub fn convert<'p>(
-    machine: &mut Machine<'p>,
-    methods: Methods,
-    object: ObjectId,
-    place: Place,
-    wanted: Wanted<'p>,
-) -> Step<'p>
-    ensures { Moves (at machine.old spec.converted (names_of methods) object place wanted.entry) machine.old result machine.new }
-{
-    let mut left = methods;
-    while let Some((name, methods)) = next_method(left) {
-        let name = Text::from_latin_1(machine.alloc, name)?;
-        let heap = &mut machine.state.heap;
-        let method = get(machine.alloc, heap, &Value::Object(object), &name, place)?;
-        match callable(heap, &method) {
-            None => left = methods,
-            Some(function) => {
-                let frame = Frame::Primitive {
-                    object,
-                    methods,
-                    place,
-                    wanted,
-                };
-                let arguments = List::new(machine.alloc);
-                return machine.call(function, Value::Object(object), arguments, place, frame);
-            }
-        }
-    }
-    type_error(machine, b"not an object", place)
 }
 
 /// A method of an object gave this value: a primitive one is taken.
@@ -138,16 +91,23 @@ fn primitive_done<'p>(machine: &mut Machine<'p>, wanted: Wanted<'p>, value: Valu
             place,
             next,
         } => operated(machine, op, &left, &value, place, next),
-        Wanted::Message { prototype, place } => error_by(machine, prototype, &value, place),
         Wanted::ErrorName { error, place } => error_named(machine, error, &value, place),
-        Wanted::ErrorMessage { name, place } => error_text(machine, &name, &value, place),
-        Wanted::Argument {
-            function,
+        Wanted::ErrorMessage { name, place } => error_message(machine, &name, &value, place),
+        Wanted::Handed {
+            native,
             left,
             done,
-            arguments,
+            handed,
             place,
-        } => argument_converted(machine, function, left, done, arguments, place, value),
+        } => value_converted(machine, native, left, done, handed, place, value),
+        Wanted::Element {
+            left,
+            count,
+            array,
+            texts,
+            separator,
+            place,
+        } => element_converted(machine, left, count, array, texts, separator, place, &value),
     }
 }
 

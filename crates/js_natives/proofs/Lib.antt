@@ -1,1 +1,4 @@
 pub mod Charging
+pub mod Elements
+pub mod Parts
+pub mod Short

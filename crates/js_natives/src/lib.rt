@@ -1,12 +1,23 @@
-//! The table of the built-in functions that code runs: which function each number stands for, its name in a fault, which
-//! of them construct, how many of its arguments become texts, and what its walk costs.
+//! The built-in functions that code runs: what becomes of the values that are handed to them, what their walks cost, and
+//! what those do that call nothing and ask nobody.
 //!
-//! Each is the table of the definition of evaluation (ECMA-262 5.1, sections 15.2 and 15.11, cut to this profile; the
-//! page on the Netscape Navigator Proxy Auto-Config format). It stands on that definition and on what rules do.
+//! Each is a function of the definition of evaluation (ECMA-262 5.1, section 15, cut to this profile; the page on the
+//! Netscape Navigator Proxy Auto-Config format). It stands on that definition and its table of natives, on what rules do
+//! to the heap, and on the methods of texts, numbers and arrays.
 #![tactic(auto)]
 
-mod table;
+mod arrays;
+mod conversions;
+mod errors;
+mod lists;
+mod numbers;
+mod objects;
+mod texts;
 mod walks;
+mod works;
 
-pub use table::{constructs, error_prototype, name_of, named, native_of, natives};
-pub use walks::{argument, charge_walk};
+pub use conversions::{is_kept, methods_for, separator_of, settled, test_handed};
+pub use lists::{array_of, define_elements, give_texts};
+pub use objects::class_of;
+pub use walks::{argument, charge_elements, charge_plain_walk, charge_walk};
+pub use works::plain_work;

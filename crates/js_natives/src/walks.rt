@@ -1,23 +1,28 @@
 // What the walks of natives cost.
 ghost use Rattle.std.specs.Prelude.{◌≡◌, ◌+◌, ◌*◌, ◌<◌, ◌≤◌, IfOk, MatchOption, length, ℕ};
 ghost use Rattle.js_convert.specs.Texts.{text_of};
-ghost use Rattle.js_evaluation.specs.Handed as handed;
+ghost use Rattle.js_evaluation.specs.Handed as given;
+ghost use Rattle.js_evaluation.specs.NativeWork as work;
 ghost use Rattle.js_evaluation.specs.PacNatives as spec;
 ghost use Rattle.js_natives.specs.Charges.{Charges};
 ghost use Rattle.pac_functions.specs.Texts.{text_in};
 
+use array_builtins::ArrayMethod;
 use heap_steps::Halt;
 use heap_values::Value;
 use js_convert::to_text;
-use js_evaluation::FaultCode;
+use js_evaluation::{FaultCode, PlainNative};
 use js_tree::Place;
+use number_builtins::NumberMethod;
+use object_heap::Heap;
 use pac_functions::PacFunction;
 use std::alloc::Global;
+use text_builtins::TextMethod;
 use utf16_text::Memory;
 
 /// The argument in a place, counted from 0; undefined where it is missing.
 pub fn argument(alloc: Global, arguments: &[Value], at: usize) -> Result<Value, Memory>
-    ensures { IfOk result (λ value. value ≡ handed.argument at arguments.now) }
+    ensures { IfOk result (λ value. value ≡ given.argument at arguments.now) }
 {
     match arguments.get(at) {
         None => Ok(Value::Undefined),
@@ -85,6 +90,204 @@ fn charge_match(
     let text = units_of(alloc, &argument(alloc, arguments, 0)?)?;
     let pattern = units_of(alloc, &argument(alloc, arguments, 1)?)?;
     charge_units(fuel, walk_beside(text, pattern), place)
+}
+
+/// Takes what the walk of a native costs on the values that it takes, which are converted: so many were handed to it,
+/// surplus ones too.
+pub fn charge_plain_walk(
+    alloc: Global,
+    fuel: &mut u64,
+    heap: &Heap,
+    native: PlainNative,
+    values: &[Value],
+    handed: usize,
+    place: Place,
+) -> Result<(), Halt>
+    ensures { Charges (work.plain_walk native heap.now values.now handed) place fuel.old result fuel.new }
+{
+    match native {
+        PlainNative::Keys => charge_keys(alloc, fuel, heap, values, place),
+        PlainNative::TextMethod(method) => charge_text_walk(fuel, method, values, place),
+        PlainNative::NumberMethod(method) => {
+            charge_number_walk(fuel, method, values, handed, place)
+        }
+        PlainNative::ArrayMethod(method) => charge_array_walk(fuel, heap, method, values, place),
+        _ => Ok(()),
+    }
+}
+
+/// Takes the count of the names that `Object.keys` lists.
+fn charge_keys(
+    alloc: Global,
+    fuel: &mut u64,
+    heap: &Heap,
+    values: &[Value],
+    place: Place,
+) -> Result<(), Halt>
+    ensures { Charges (length (work.keys_in heap.now (given.argument 0 values.now))) place fuel.old result fuel.new }
+{
+    let object = argument(alloc, values, 0)?;
+    let keys = keys_in(alloc, heap, &object)?;
+    charge_units(fuel, Some(keys), place)
+}
+
+/// How many names `Object.keys` lists of a value.
+fn keys_in(alloc: Global, heap: &Heap, value: &Value) -> Result<u64, Memory>
+    ensures { IfOk result (λ count. count ≡ length (work.keys_in heap.now value.now)) }
+{
+    match value {
+        Value::Object(object) => Ok(heap.own_keys(alloc, *object)?.len() as u64),
+        _ => Ok(0),
+    }
+}
+
+/// Takes what the walk of a method of texts costs: each place of the text, with the one behind its end, beside each of
+/// the part that is looked for, or the units of all values.
+fn charge_text_walk(
+    fuel: &mut u64,
+    method: TextMethod,
+    values: &[Value],
+    place: Place,
+) -> Result<(), Halt>
+    ensures { Charges (work.text_walk method values.now) place fuel.old result fuel.new }
+{
+    match method {
+        TextMethod::IndexOf => charge_search(fuel, values, place),
+        TextMethod::LastIndexOf => charge_search(fuel, values, place),
+        TextMethod::Replace => charge_search(fuel, values, place),
+        TextMethod::Split => charge_search(fuel, values, place),
+        _ => charge_text_units(fuel, values, place),
+    }
+}
+
+fn charge_search(fuel: &mut u64, values: &[Value], place: Place) -> Result<(), Halt>
+    ensures { Charges (work.search_walk (given.argument 0 values.now) (given.argument 1 values.now)) place fuel.old result fuel.new }
+{
+    let walk = walk_beside(units_at(values, 0), units_at(values, 1));
+    charge_units(fuel, walk, place)
+}
+
+/// Takes the units of the texts among values.
+fn charge_text_units(fuel: &mut u64, values: &[Value], place: Place) -> Result<(), Halt>
+    ensures { Charges (work.text_units values.now) place fuel.old result fuel.new }
+{
+    let mut left = values;
+    while let [value, rest @ ..] = left {
+        charge_units(fuel, Some(units_in(value)), place)?;
+        left = rest;
+    }
+    Ok(())
+}
+
+/// The units of the text in a place, counted from 0; any other value has none.
+fn units_at(values: &[Value], at: usize) -> u64
+    ensures { result ≡ work.units_in (given.argument at values.now) }
+{
+    match values.get(at) {
+        None => 0,
+        Some(value) => units_in(value),
+    }
+}
+
+/// The units of a text; any other value has none.
+fn units_in(value: &Value) -> u64
+    ensures { result ≡ work.units_in value.now }
+{
+    match value {
+        Value::Text(text) => text.len() as u64,
+        _ => 0,
+    }
+}
+
+fn charge_number_walk(
+    fuel: &mut u64,
+    method: NumberMethod,
+    values: &[Value],
+    handed: usize,
+    place: Place,
+) -> Result<(), Halt>
+    ensures { Charges (work.number_walk method values.now handed) place fuel.old result fuel.new }
+{
+    match method {
+        NumberMethod::ParseInt => charge_text_units(fuel, values, place),
+        NumberMethod::ToString => Ok(()),
+        _ => charge_units(fuel, Some(handed as u64), place),
+    }
+}
+
+fn charge_array_walk(
+    fuel: &mut u64,
+    heap: &Heap,
+    method: ArrayMethod,
+    values: &[Value],
+    place: Place,
+) -> Result<(), Halt>
+    ensures { Charges (work.array_walk method heap.now values.now) place fuel.old result fuel.new }
+{
+    match method {
+        ArrayMethod::Push => charge_arguments(fuel, values, place),
+        ArrayMethod::Pop => charge_arguments(fuel, values, place),
+        ArrayMethod::Concat => charge_concat(fuel, heap, values, place),
+        _ => charge_elements(fuel, heap, values, place),
+    }
+}
+
+/// Takes one unit for each value behind the receiver.
+fn charge_arguments(fuel: &mut u64, values: &[Value], place: Place) -> Result<(), Halt>
+    ensures { Charges (work.arguments_walk values.now) place fuel.old result fuel.new }
+{
+    match values {
+        [] => Ok(()),
+        [_, arguments @ ..] => charge_units(fuel, Some(arguments.len() as u64), place),
+    }
+}
+
+/// Takes the arguments, and the elements of all arrays.
+fn charge_concat(fuel: &mut u64, heap: &Heap, values: &[Value], place: Place) -> Result<(), Halt>
+    ensures { Charges (work.concat_walk heap.now values.now) place fuel.old result fuel.new }
+{
+    charge_arguments(fuel, values, place)?;
+    charge_lengths(fuel, heap, values, place)
+}
+
+/// Takes the elements of the arrays among values.
+fn charge_lengths(fuel: &mut u64, heap: &Heap, values: &[Value], place: Place) -> Result<(), Halt>
+    ensures { Charges (work.lengths_in heap.now values.now) place fuel.old result fuel.new }
+{
+    let mut left = values;
+    while let [value, rest @ ..] = left {
+        charge_units(fuel, Some(elements_in(heap, value)), place)?;
+        left = rest;
+    }
+    Ok(())
+}
+
+/// Takes the elements of the receiver, and the arguments.
+pub fn charge_elements(
+    fuel: &mut u64,
+    heap: &Heap,
+    handed: &[Value],
+    place: Place,
+) -> Result<(), Halt>
+    ensures { Charges (work.elements_walk heap.now handed.now) place fuel.old result fuel.new }
+{
+    match handed {
+        [] => Ok(()),
+        [receiver, arguments @ ..] => {
+            let elements = elements_in(heap, receiver);
+            charge_units(fuel, elements.checked_add(arguments.len() as u64), place)
+        }
+    }
+}
+
+/// The length of an array; any other value has none.
+fn elements_in(heap: &Heap, value: &Value) -> u64
+    ensures { result ≡ work.elements_in heap.now value.now }
+{
+    match value {
+        Value::Object(object) => u64::from(heap.length(*object)),
+        _ => 0,
+    }
 }
 
 /// Each place of one text, with the one behind its end, beside each of another. None for more than any fuel.

@@ -1,6 +1,6 @@
 use Rattle.std.proofs.Common.{Some, None, refl, sym, ap, ◌∙◌}
 use Rattle.js_machine.proofs.Steps.{forgets}
-use Rattle.js_expressions.proofs.Steps.{moves_as}
+use Rattle.js_native_calls.proofs.Steps.{moves_as}
 use Rattle.js_machine.specs.Moves.{at, run_state}
 use Rattle.js_frames.specs.Parts.{reference_of}
 use Rattle.js_evaluation.specs.Conversions.{assigned_by}

@@ -1,5 +1,5 @@
 use Rattle.std.proofs.Common.{sym, ◌∙◌}
-use Rattle.js_expressions.proofs.Steps.{works_back, works_ends}
+use Rattle.js_native_calls.proofs.Steps.{works_back, works_ends}
 use Rattle.js_expressions.proofs.FunctionValues.{found, plain_function, own_function}
 use Rattle.heap_values.specs.declared.value.Value.TheVariants as value
 use Rattle.js_machine.specs.Moves.{at, functions_of, inner}

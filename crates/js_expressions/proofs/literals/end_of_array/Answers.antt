@@ -1,5 +1,5 @@
 use Rattle.std.proofs.Common.{refl}
-use Rattle.js_expressions.proofs.Steps.{gives}
+use Rattle.js_native_calls.proofs.Steps.{gives}
 use Rattle.js_expressions.proofs.literals.end_of_array.Goals as goal
 
 pub returns-then-hole : goal.returns-then-hole

@@ -1,4 +1,4 @@
-use Rattle.js_expressions.proofs.Objects.{not_object}
+use Rattle.js_native_calls.proofs.Objects.{not_object}
 use Rattle.js_machine.specs.Moves.{resumed}
 use Rattle.js_expressions.proofs.primitives.method_done.Goals as goal
 

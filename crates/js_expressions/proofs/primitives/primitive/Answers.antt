@@ -1,4 +1,4 @@
-use Rattle.js_expressions.proofs.Objects.{is_primitive}
+use Rattle.js_native_calls.proofs.Objects.{is_primitive}
 use Rattle.js_machine.specs.Moves.{functions_of, inner}
 use Rattle.js_frames.specs.Rules as rule
 use Rattle.js_frames.specs.Parts.{context_of}

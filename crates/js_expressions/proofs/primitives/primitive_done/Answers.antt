@@ -27,14 +27,14 @@ returns-in-Left c = rw c.in-Left.is c.right_operand.ensures
 pub returns-in-Right : goal.returns-in-Right
 returns-in-Right c = rw c.in-Right.is c.operated.ensures
 
-pub returns-in-Message : goal.returns-in-Message
-returns-in-Message c = rw c.in-Message.is c.error_by.ensures
-
 pub returns-in-ErrorName : goal.returns-in-ErrorName
 returns-in-ErrorName c = rw c.in-ErrorName.is c.error_named.ensures
 
 pub returns-in-ErrorMessage : goal.returns-in-ErrorMessage
-returns-in-ErrorMessage c = rw c.in-ErrorMessage.is c.error_text.ensures
+returns-in-ErrorMessage c = rw c.in-ErrorMessage.is c.error_message.ensures
+
+pub returns-in-Handed : goal.returns-in-Handed
+returns-in-Handed c = rw c.in-Handed.is c.value_converted.ensures
 
 pub returns : goal.returns
-returns c = rw c.in-Argument.is c.argument_converted.ensures
+returns c = rw c.in-Element.is c.element_converted.ensures

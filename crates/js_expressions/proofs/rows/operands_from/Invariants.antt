@@ -2,7 +2,7 @@ use Rattle.std.proofs.Common.{length}
 use Rattle.js_tree.specs.View.{operands_of}
 use Rattle.js_frames.specs.Rules as rule
 use Rattle.js_machine.specs.Moves.{at}
-use Rattle.js_expressions.proofs.Steps.{Carries}
+use Rattle.js_native_calls.proofs.Steps.{Carries}
 use Rattle.js_expressions.proofs.rows.operands_from.Given as goal
 
 abbrev pub invariant-loop-left : goal.invariant-loop-left

@@ -1,6 +1,6 @@
 use Rattle.std.proofs.Common.{refl}
 use Rattle.js_machine.proofs.Steps.{forgets}
-use Rattle.js_expressions.proofs.Steps.{works_back, works_ends, moves_as}
+use Rattle.js_native_calls.proofs.Steps.{works_back, works_ends, moves_as}
 use Rattle.heap_values.specs.declared.value.Value.TheVariants as value
 use Rattle.js_machine.specs.Moves.{at}
 use Rattle.js_evaluation.specs.Objects.{delete_property}

@@ -1,6 +1,6 @@
 use Rattle.std.proofs.Common.{Ok, refl, sym, ap, ◌∙◌}
 use Rattle.js_machine.proofs.Steps.{forgets}
-use Rattle.js_expressions.proofs.Steps.{gives}
+use Rattle.js_native_calls.proofs.Steps.{gives}
 use Rattle.heap_values.specs.declared.value.Value.TheVariants as value
 use Rattle.js_machine.specs.Moves.{run_state}
 use Rattle.js_expressions.proofs.unary.type_done.Goals as goal

@@ -1,4 +1,4 @@
-use Rattle.std.proofs.Common.{ℕ, ◌≤◌, ◌<◌, refl, arith}
+use Rattle.std.proofs.Common.{◌≤◌, arith}
 use Rattle.js_natives.proofs.walks.left_of.Goals as goal
 
 pub returns-in-None : goal.returns-in-None

@@ -1,9 +1,0 @@
-use Rattle.js_expressions.proofs.Steps.{works_back, works_ends}
-use Rattle.heap_values.specs.declared.value.Value.TheVariants as value
-use Rattle.js_expressions.proofs.errors.type_error.Goals as goal
-
-pub returns-in_err-value : goal.returns-in_err-value
-returns-in_err-value c = works_ends _ _ _ _ _ c.from_residual.ensures.1 c.in_err-value.ensures
-
-pub returns : goal.returns
-returns c = works_back _ _ _ _ c.in_ok-value.ensures

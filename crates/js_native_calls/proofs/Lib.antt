@@ -1,0 +1,10 @@
+pub mod Elements
+pub mod ErrorNames
+pub mod Grouping
+pub mod Handing
+pub mod Methods
+pub mod Objects
+pub mod Steps
+pub mod Tested
+pub mod Texts
+pub mod Walks

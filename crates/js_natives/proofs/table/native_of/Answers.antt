@@ -1,6 +1,0 @@
-use Rattle.std.proofs.Common.{ap, ◌∙◌}
-use Rattle.std.specs.Prelude.{slice_get}
-use Rattle.js_natives.proofs.table.native_of.Goals as goal
-
-pub returns : goal.returns
-returns c = c.native_in.ensures ∙ ap (λ all. slice_get all c.args.number) c.natives.ensures
