@@ -1,6 +1,6 @@
 //! What scripts come to: values, results and faults with their places: a table of scripts.
 //!
-//! The rows are written from ECMA-262 edition 5.1, sections 8 to 13 and 15.11, and from the page on the Netscape
+//! The rows are written from ECMA-262 edition 5.1, sections 8 to 13, 15 and B.2.3, and from the page on the Netscape
 //! Navigator Proxy Auto-Config format, as the profile in docs/LANGUAGE.md has them. Each script is run twice over fresh
 //! hosts, and must come to the same: how it ends, the names that it asks and the alerts that are kept, or each call that it
 //! makes of its host, in their order. In each run it
@@ -26,7 +26,7 @@ fn main(rt: HostRuntime) -> Result<()> {
 
 fn answer(alloc: Global, part: &str, fields: &[&str]) -> Result<String> {
     match part {
-        "values" => value(alloc, fields),
+        "values" | "natives" | "left out" => value(alloc, fields),
         "bodies" => outcome(alloc, with_body(alloc, fields)?.as_str(), FUEL),
         "unknown names" => outcome_of_known(alloc, with_body(alloc, fields)?.as_str(), FUEL),
         "scripts" => outcome(alloc, only(fields)?, FUEL),
