@@ -41,9 +41,9 @@ function weekdayRange(first, last) {
 
 
 def company():
-    """The rules of a company, without the line that lowers the host: it is lowered, and texts have no methods yet."""
+    """The rules of a company."""
     with open(os.path.join(TOP, "examples", "company.pac"), encoding="ascii") as file:
-        return file.read().replace("  host = host.toLowerCase();\n", "")
+        return file.read()
 
 
 def program():
