@@ -1,5 +1,5 @@
 -- The order of two texts of which the second ends first.
-use Rattle.std.proofs.Common.{◌≡◌, ℕ, ◌<◌, ◌∷◌, suc, List, [], drop, get_or, Greater, sym, ap, arith, drop-cons, length}
+use Rattle.std.proofs.Common.{◌≡◌, ℕ, ◌<◌, ◌∷◌, List, [], drop, Greater, sym, ap, arith, drop-cons, length}
 use Rattle.std.specs.Ordering.{nat_cmp}
 use Rattle.std.specs.Cmp.Lexicographic.{slice_cmp}
 
