@@ -1,6 +1,11 @@
 // The arguments of a method.
 ghost use Rattle.std.specs.Prelude.{◌≡◌, ◌≤◌};
-ghost use Rattle.array_builtins.specs.Arguments.{first_number as first_number_of, second_number as second_number_of, place_or, from_end};
+ghost use Rattle.array_builtins.specs.Arguments.{
+  first_number as first_number_of,
+  second_number as second_number_of,
+  place_or,
+  from_end,
+};
 
 use heap_values::Value;
 use whole_number::Whole;

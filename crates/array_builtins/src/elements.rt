@@ -5,13 +5,16 @@ ghost use Rattle.array_builtins.specs.Elements.{
   all_put,
   array_made,
   cut as cut_at,
+  defined,
   element as element_of,
   length_set,
   moved,
   moved_backward,
   moved_forward,
+  put,
   put_or_deleted,
   value_found,
+  without,
 };
 
 use heap_values::{BuiltIn, Found, HeapAnswer, Kind, ObjectId, Value};
@@ -23,8 +26,8 @@ use whole_number::Whole;
 
 const LONGEST_ARRAY: u64 = 100_000;
 
-/// The name of the element at a place.
-pub fn index_name(alloc: Global, at: u64) -> Result<Text, Memory>
+// The name of the element at a place.
+fn index_name(alloc: Global, at: u64) -> Result<Text, Memory>
     ensures { IfOk result (λ name. name ≡ decimal at) }
 {
     let mut digits = Buffer::new();
@@ -40,16 +43,68 @@ pub fn make_array(alloc: Global, heap: &mut Heap) -> Result<ObjectId, HeapAnswer
     heap.make(alloc, Kind::Array, Some(prototype))
 }
 
-/// The element of this name, the array's own or an inherited one.
+/// The element at a place, the array's own or an inherited one.
 pub fn element(
     alloc: Global,
     heap: &Heap,
     array: ObjectId,
-    name: &Text,
+    at: u64,
 ) -> Result<Option<Value>, Memory>
-    ensures { IfOk result (λ v. v ≡ element_of heap.now array name.now) }
+    ensures { IfOk result (λ v. v ≡ element_of heap.now array (decimal at)) }
 {
-    Ok(value_in(heap.get(alloc, array, name)?))
+    let found = match u32::try_from(at) {
+        Ok(index) => heap.get_index(alloc, array, index)?,
+        Err(_) => heap.get(alloc, array, &index_name(alloc, at)?)?,
+    };
+    Ok(value_in(found))
+}
+
+/// Puts a value at a place.
+pub fn put_element(
+    alloc: Global,
+    heap: &mut Heap,
+    array: ObjectId,
+    at: u64,
+    value: Value,
+) -> Result<(), HeapAnswer>
+    ensures ok { OnOk result (put heap.old array (decimal at) value ≡ Ok heap.new) }
+    ensures err { IfErr result (λ e. (e ≡ HeapAnswer.Memory) ⊎ (put heap.old array (decimal at) value ≡ Err e)) }
+{
+    match u32::try_from(at) {
+        Ok(index) => heap.put_index(alloc, array, index, value),
+        Err(_) => heap.put(alloc, array, &index_name(alloc, at)?, value),
+    }
+}
+
+/// Defines the element at a place of an array that is made, listed and deletable.
+pub fn define_element(
+    alloc: Global,
+    heap: &mut Heap,
+    array: ObjectId,
+    at: u64,
+    value: Value,
+) -> Result<(), HeapAnswer>
+    ensures ok { OnOk result (defined heap.old array (decimal at) value ≡ Ok heap.new) }
+    ensures err { IfErr result (λ e. (e ≡ HeapAnswer.Memory) ⊎ (defined heap.old array (decimal at) value ≡ Err e)) }
+{
+    match u32::try_from(at) {
+        Ok(index) => heap.define_index(alloc, array, index, value),
+        Err(_) => heap.define(alloc, array, &index_name(alloc, at)?, value, true, true),
+    }
+}
+
+/// Deletes the element at a place.
+pub fn delete_element(
+    alloc: Global,
+    heap: &mut Heap,
+    array: ObjectId,
+    at: u64,
+) -> Result<(), Memory>
+    ensures { OnOk result (heap.new ≡ without heap.old array (decimal at)) }
+{
+    let name = index_name(alloc, at)?;
+    heap.delete(array, &name);
+    Ok(())
 }
 
 fn value_in(found: Found) -> Option<Value>
@@ -85,19 +140,18 @@ pub fn set_length(
     )
 }
 
-/// Deletes the last element of an array, by its name, and sets the length.
+/// Deletes the last element of an array, which stands at this place, and sets the length to it.
 pub fn cut(
     alloc: Global,
     heap: &mut Heap,
     array: ObjectId,
-    name: &Text,
-    length: u64,
+    last: u64,
 ) -> Result<(), HeapAnswer>
-    ensures ok { OnOk result (cut_at heap.old array name.now length ≡ Ok heap.new) }
-    ensures err { IfErr result (λ e. (e ≡ HeapAnswer.Memory) ⊎ (cut_at heap.old array name.now length ≡ Err e)) }
+    ensures ok { OnOk result (cut_at heap.old array (decimal last) last ≡ Ok heap.new) }
+    ensures err { IfErr result (λ e. (e ≡ HeapAnswer.Memory) ⊎ (cut_at heap.old array (decimal last) last ≡ Err e)) }
 {
-    heap.delete(array, name);
-    set_length(alloc, heap, array, length)
+    delete_element(alloc, heap, array, last)?;
+    set_length(alloc, heap, array, last)
 }
 
 /// Puts values at a place and behind it.
@@ -115,8 +169,7 @@ pub fn put_all(
     let mut at = from;
     let mut rest = values;
     while let Some((value, others)) = rest.split_first() {
-        let name = index_name(alloc, at)?;
-        heap.put(alloc, array, &name, value.copy(alloc)?)?;
+        put_element(alloc, heap, array, at, value.copy(alloc)?)?;
         at += 1;
         rest = others;
     }
@@ -134,28 +187,23 @@ fn move_element(
     ensures ok { OnOk result (moved array from to heap.old ≡ Ok heap.new) }
     ensures err { IfErr result (λ e. (e ≡ HeapAnswer.Memory) ⊎ (moved array from to heap.old ≡ Err e)) }
 {
-    let from = index_name(alloc, from)?;
-    let to = index_name(alloc, to)?;
-    let value = element(alloc, heap, array, &from)?;
-    put_or_delete(alloc, heap, array, &to, value)
+    let value = element(alloc, heap, array, from)?;
+    put_or_delete(alloc, heap, array, to, value)
 }
 
 fn put_or_delete(
     alloc: Global,
     heap: &mut Heap,
     array: ObjectId,
-    name: &Text,
+    at: u64,
     value: Option<Value>,
 ) -> Result<(), HeapAnswer>
-    ensures ok { OnOk result (put_or_deleted heap.old array name.now value ≡ Ok heap.new) }
-    ensures err { IfErr result (λ e. (e ≡ HeapAnswer.Memory) ⊎ (put_or_deleted heap.old array name.now value ≡ Err e)) }
+    ensures ok { OnOk result (put_or_deleted heap.old array (decimal at) value ≡ Ok heap.new) }
+    ensures err { IfErr result (λ e. (e ≡ HeapAnswer.Memory) ⊎ (put_or_deleted heap.old array (decimal at) value ≡ Err e)) }
 {
     match value {
-        Some(value) => heap.put(alloc, array, name, value),
-        None => {
-            heap.delete(array, name);
-            Ok(())
-        }
+        Some(value) => put_element(alloc, heap, array, at, value),
+        None => Ok(delete_element(alloc, heap, array, at)?),
     }
 }
 

@@ -3,7 +3,7 @@ ghost use Rattle.std.specs.Prelude.{◌≡◌, ◌⊎◌, IfOk, IfErr, Ok, Err};
 ghost use Rattle.array_builtins.specs.Ends.{pop_of, push_of, shift_of, unshift_of, with_length};
 ghost use Rattle.array_builtins.specs.Elements.{value_of as value_of_element};
 
-use crate::elements::{cut, element, index_name, move_backward, move_forward, put_all, set_length};
+use crate::elements::{cut, element, move_backward, move_forward, put_all, set_length};
 use heap_values::{HeapAnswer, ObjectId, Value};
 use object_heap::Heap;
 use std::alloc::Global;
@@ -49,9 +49,8 @@ pub fn pop(alloc: Global, heap: &mut Heap, array: ObjectId) -> Result<Value, Hea
         return Ok(Value::Undefined);
     }
     let last = u64::from(length - 1);
-    let name = index_name(alloc, last)?;
-    let value = element(alloc, heap, array, &name)?;
-    cut(alloc, heap, array, &name, last)?;
+    let value = element(alloc, heap, array, last)?;
+    cut(alloc, heap, array, last)?;
     Ok(or_undefined(value))
 }
 
@@ -71,10 +70,10 @@ pub fn shift(alloc: Global, heap: &mut Heap, array: ObjectId) -> Result<Value, H
         set_length(alloc, heap, array, 0)?;
         return Ok(Value::Undefined);
     }
-    let value = element(alloc, heap, array, &index_name(alloc, 0)?)?;
+    let value = element(alloc, heap, array, 0)?;
     let last = u64::from(length - 1);
     move_forward(alloc, heap, array, 1, 0, last)?;
-    cut(alloc, heap, array, &index_name(alloc, last)?, last)?;
+    cut(alloc, heap, array, last)?;
     Ok(or_undefined(value))
 }
 

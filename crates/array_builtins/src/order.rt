@@ -1,12 +1,12 @@
 // The elements of an array in the opposite order.
 ghost use Rattle.std.specs.Prelude.{◌≡◌, ◌⊎◌, IfOk, IfErr, OnOk, Ok, Err};
+ghost use Rattle.std.specs.Fmt.{decimal};
 ghost use Rattle.array_builtins.specs.Order.{exchanged, reverse_of, reversed, swapped};
 
-use crate::elements::{element, index_name};
+use crate::elements::{delete_element, element, put_element};
 use heap_values::{HeapAnswer, ObjectId, Value};
 use object_heap::Heap;
 use std::alloc::Global;
-use utf16_text::Text;
 
 /// `reverse`: turns the order of the elements round, and gives the array (15.4.4.8).
 pub fn reverse(alloc: Global, heap: &mut Heap, array: ObjectId) -> Result<Value, HeapAnswer>
@@ -40,38 +40,35 @@ fn swap(
     ensures ok { OnOk result (swapped array low high heap.old ≡ Ok heap.new) }
     ensures err { IfErr result (λ e. (e ≡ HeapAnswer.Memory) ⊎ (swapped array low high heap.old ≡ Err e)) }
 {
-    let low = index_name(alloc, low)?;
-    let high = index_name(alloc, high)?;
-    let at_low = element(alloc, heap, array, &low)?;
-    let at_high = element(alloc, heap, array, &high)?;
-    exchange(alloc, heap, array, &low, &high, at_low, at_high)
+    let at_low = element(alloc, heap, array, low)?;
+    let at_high = element(alloc, heap, array, high)?;
+    exchange(alloc, heap, array, low, high, at_low, at_high)
 }
 
 fn exchange(
     alloc: Global,
     heap: &mut Heap,
     array: ObjectId,
-    low: &Text,
-    high: &Text,
+    low: u64,
+    high: u64,
     at_low: Option<Value>,
     at_high: Option<Value>,
 ) -> Result<(), HeapAnswer>
-    ensures ok { OnOk result (exchanged heap.old array low.now high.now at_low at_high ≡ Ok heap.new) }
-    ensures err { IfErr result (λ e. (e ≡ HeapAnswer.Memory) ⊎ (exchanged heap.old array low.now high.now at_low at_high ≡ Err e)) }
+    ensures ok { OnOk result (exchanged heap.old array (decimal low) (decimal high) at_low at_high ≡ Ok heap.new) }
+    ensures err { IfErr result (λ e. (e ≡ HeapAnswer.Memory) ⊎ (exchanged heap.old array (decimal low) (decimal high) at_low at_high ≡ Err e)) }
 {
     match (at_low, at_high) {
         (Some(at_low), Some(at_high)) => {
-            heap.put(alloc, array, low, at_high)?;
-            heap.put(alloc, array, high, at_low)
+            put_element(alloc, heap, array, low, at_high)?;
+            put_element(alloc, heap, array, high, at_low)
         }
         (None, Some(at_high)) => {
-            heap.put(alloc, array, low, at_high)?;
-            heap.delete(array, high);
-            Ok(())
+            put_element(alloc, heap, array, low, at_high)?;
+            Ok(delete_element(alloc, heap, array, high)?)
         }
         (Some(at_low), None) => {
-            heap.delete(array, low);
-            heap.put(alloc, array, high, at_low)
+            delete_element(alloc, heap, array, low)?;
+            put_element(alloc, heap, array, high, at_low)
         }
         (None, None) => Ok(()),
     }

@@ -1,7 +1,5 @@
 // Arrays made of parts of arrays.
 ghost use Rattle.std.specs.Prelude.{◌≡◌, ◌≤◌, ◌+◌, ◌⊎◌, IfOk, IfErr, OnOk, Ok, Err, ◌∷◌};
-ghost use Rattle.std.specs.Fmt.{decimal};
-ghost use Rattle.array_builtins.specs.Elements.{defined};
 ghost use Rattle.array_builtins.specs.Parts.{
   all_appended,
   appended,
@@ -15,7 +13,7 @@ ghost use Rattle.array_builtins.specs.Parts.{
 };
 
 use crate::arguments::{first_number, place, second_number};
-use crate::elements::{element, index_name, make_array};
+use crate::elements::{define_element, element, make_array};
 use heap_values::{HeapAnswer, Kind, ObjectId, Value};
 use object_heap::Heap;
 use std::alloc::Global;
@@ -73,24 +71,10 @@ fn copy_element(
     ensures ok { OnOk result (copied_one array from into to heap.old ≡ Ok heap.new) }
     ensures err { IfErr result (λ e. (e ≡ HeapAnswer.Memory) ⊎ (copied_one array from into to heap.old ≡ Err e)) }
 {
-    match element(alloc, heap, array, &index_name(alloc, from)?)? {
+    match element(alloc, heap, array, from)? {
         Some(value) => define_element(alloc, heap, into, to, value),
         None => Ok(()),
     }
-}
-
-fn define_element(
-    alloc: Global,
-    heap: &mut Heap,
-    into: ObjectId,
-    at: u64,
-    value: Value,
-) -> Result<(), HeapAnswer>
-    ensures ok { OnOk result (defined heap.old into (decimal at) value ≡ Ok heap.new) }
-    ensures err { IfErr result (λ e. (e ≡ HeapAnswer.Memory) ⊎ (defined heap.old into (decimal at) value ≡ Err e)) }
-{
-    let name = index_name(alloc, at)?;
-    heap.define(alloc, into, &name, value, true, true)
 }
 
 /// `concat`: a new array of the receiver's elements and of the arguments, of an array its elements (15.4.4.4).

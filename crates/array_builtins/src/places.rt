@@ -16,7 +16,7 @@ ghost use Rattle.array_builtins.specs.Places.{
 };
 
 use crate::arguments::{place, second_number};
-use crate::elements::{element, index_name};
+use crate::elements::element;
 use heap_values::{ObjectId, Value};
 use js_convert::strict_equals;
 use object_heap::Heap;
@@ -70,8 +70,7 @@ fn stands_at(
 ) -> Result<bool, Memory>
     ensures { IfOk result (λ stands. stands ≡ is_equal value.now (element_of heap.now array (decimal at))) }
 {
-    let name = index_name(alloc, at)?;
-    match element(alloc, heap, array, &name)? {
+    match element(alloc, heap, array, at)? {
         Some(element) => Ok(strict_equals(value, &element)),
         None => Ok(false),
     }

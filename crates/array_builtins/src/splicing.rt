@@ -1,7 +1,5 @@
 // A part of an array in place of another.
 ghost use Rattle.std.specs.Prelude.{◌≡◌, ◌≤◌, ◌+◌, ◌⊎◌, IfOk, IfErr, OnOk, Ok, Err, length};
-ghost use Rattle.std.specs.Fmt.{decimal};
-ghost use Rattle.array_builtins.specs.Elements.{without};
 ghost use Rattle.array_builtins.specs.Splicing.{
   all_deleted,
   clamped as clamped_number,
@@ -13,7 +11,9 @@ ghost use Rattle.array_builtins.specs.Splicing.{
 };
 
 use crate::arguments::{first_number, place, second_number};
-use crate::elements::{index_name, make_array, move_backward, move_forward, put_all, set_length};
+use crate::elements::{
+    delete_element, make_array, move_backward, move_forward, put_all, set_length,
+};
 use crate::parts::copy_elements;
 use heap_values::{HeapAnswer, ObjectId, Value};
 use object_heap::Heap;
@@ -137,19 +137,5 @@ fn delete_all(
         left -= 1;
         delete_element(alloc, heap, array, from + left)?;
     }
-    Ok(())
-}
-
-fn delete_element(
-    alloc: Global,
-    heap: &mut Heap,
-    array: ObjectId,
-    at: u64,
-) -> Result<(), HeapAnswer>
-    ensures ok { OnOk result (heap.new ≡ without heap.old array (decimal at)) }
-    ensures err { IfErr result (λ e. e ≡ HeapAnswer.Memory) }
-{
-    let name = index_name(alloc, at)?;
-    heap.delete(array, &name);
     Ok(())
 }

@@ -1,5 +1,6 @@
 // Objects, scopes, properties and texts that are made.
-ghost use Rattle.std.specs.Prelude.{Some};
+ghost use Rattle.std.specs.Prelude.{Some, true, ◌≤◌, length, OnOk};
+ghost use Rattle.std.specs.Fmt.{decimal};
 ghost use Rattle.js_evaluation.specs.State as spec;
 ghost use Rattle.heap_steps.specs.Works.{Tests, Works};
 
@@ -94,6 +95,23 @@ pub fn define_as(
     define(alloc, heap, object, &name, value, marks, place)
 }
 
+/// An element, listed and deletable, in place of one of that index.
+pub fn define_at(
+    alloc: Global,
+    heap: &mut Heap,
+    object: ObjectId,
+    index: u32,
+    value: Value,
+    place: Place,
+) -> Result<(), Halt>
+    ensures { Works (spec.define object (decimal index) value true true place) heap.old result heap.new }
+{
+    match heap.define_index(alloc, object, index, value) {
+        Ok(()) => Ok(()),
+        Err(answer) => Err(refused(answer, place)),
+    }
+}
+
 /// Counts the units of a text that is made.
 pub fn spend(heap: &mut Heap, text: &Text, place: Place) -> Result<(), Halt>
     ensures { Works (spec.spend text.now place) heap.old result heap.new }
@@ -106,7 +124,8 @@ pub fn spend(heap: &mut Heap, text: &Text, place: Place) -> Result<(), Halt>
 
 /// A text that becomes a value and isn't counted must be short enough.
 pub fn test_text(text: &Text, place: Place) -> Result<(), Halt>
-    ensures { Tests (spec.test_text text.now place) result }
+    ensures tests { Tests (spec.test_text text.now place) result }
+    ensures short { OnOk result (length text.now ≤ 262144) }
 {
     if text.len() > LONGEST_TEXT {
         return Err(Halt::Fault {

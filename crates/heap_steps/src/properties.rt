@@ -1,6 +1,9 @@
 // Reads of properties (ECMA-262 5.1, sections 8.7.1, 8.12.3 and 8.12.6).
-ghost use Rattle.std.specs.Prelude.{◌≡◌, IfOk, pos, slice_get};
+ghost use Rattle.std.specs.Prelude.{◌≡◌, IfOk, IfSome, pos, slice_get};
+ghost use Rattle.std.specs.Fmt.{decimal};
 ghost use Rattle.std.specs.Str.{bytes_eq};
+ghost use Rattle.heap_values.specs.declared.value.Value.TheVariants as value;
+ghost use Rattle.js_convert.specs.Texts.{text_of};
 ghost use Rattle.js_evaluation.specs.Objects as spec;
 ghost use Rattle.heap_steps.specs.Works.{Tests, Works};
 
@@ -8,6 +11,7 @@ use crate::Halt;
 use crate::errors::throw_type_error;
 use heap_objects::array_index;
 use heap_values::{BuiltIn, Found, ObjectId, Value};
+use js_convert::to_text;
 use js_tree::Place;
 use object_heap::Heap;
 use std::alloc::Global;
@@ -76,6 +80,48 @@ pub fn get(
     match own_of(alloc, base, name)? {
         Some(value) => Ok(value),
         None => get_from(alloc, heap, holder_of(heap, base), name, place),
+    }
+}
+
+/// A property of a value under the name that is the text of a primitive value. An index of an object becomes no text.
+pub fn get_by(
+    alloc: Global,
+    heap: &mut Heap,
+    base: &Value,
+    key: &Value,
+    place: Place,
+) -> Result<Value, Halt>
+    ensures { Works (spec.get base.now (text_of key.now) place) heap.old result heap.new }
+{
+    match (object_of(base), index_of(key)) {
+        (Some(object), Some(index)) => {
+            let found = heap.get_index(alloc, object, index)?;
+            found_value(Value::Undefined, found, place)
+        }
+        _ => {
+            let name = to_text(alloc, key)?;
+            get(alloc, heap, base, &name, place)
+        }
+    }
+}
+
+/// The object that a value is.
+pub(crate) fn object_of(value: &Value) -> Option<ObjectId>
+    ensures { IfSome result (λ object. value.now ≡ value.Object object) }
+{
+    match value {
+        Value::Object(object) => Some(*object),
+        _ => None,
+    }
+}
+
+/// The index that a key is, where the key is a number.
+pub(crate) fn index_of(key: &Value) -> Option<u32>
+    ensures { IfSome result (λ index. text_of key.now ≡ decimal index) }
+{
+    match key {
+        Value::Number(number) => u32::try_from(number.get()).ok(),
+        _ => None,
     }
 }
 

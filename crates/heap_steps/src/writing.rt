@@ -1,13 +1,17 @@
 // Writes and deletions of properties (ECMA-262 5.1, sections 8.7.2, 8.12.5, 8.12.7 and 11.4.1).
-ghost use Rattle.std.specs.Prelude.{◌≡◌};
+ghost use Rattle.std.specs.Prelude.{◌≡◌, ◌⊎◌, List, ℕ, IsTrue, false, Result, Err};
+ghost use Rattle.std.specs.Fmt.{decimal};
+ghost use Rattle.heap_values.specs.Views.{HeapView};
 ghost use Rattle.object_heap.specs.Heap.{object_at, own_marks_in};
+ghost use Rattle.js_convert.specs.Texts.{text_of};
 ghost use Rattle.js_evaluation.specs.Objects as spec;
 ghost use Rattle.heap_steps.specs.Works.{Works, deletion, is_kept as kept};
 
 use crate::errors::throw_error;
-use crate::properties::{is_named, own_of};
+use crate::properties::{index_of, is_named, object_of, own_of};
 use crate::{Halt, refused};
 use heap_values::{BuiltIn, Found, HeapAnswer, Kind, ObjectId, Value};
+use js_convert::to_text;
 use js_tree::Place;
 use object_heap::Heap;
 use std::alloc::Global;
@@ -75,13 +79,53 @@ pub fn put_on(
     }
     match heap.put(alloc, object, name, value) {
         Ok(()) => Ok(()),
-        Err(answer) => match answer {
-            HeapAnswer::BadLength => {
-                let message = Text::from_latin_1(alloc, b"invalid array length")?;
-                throw_error(alloc, heap, BuiltIn::RangeErrorPrototype, message, place)
-            }
-            answer => Err(refused(answer, place)),
-        },
+        Err(answer) => not_stored(alloc, heap, answer, place),
+    }
+}
+
+/// What a write comes to that the heap refuses.
+fn not_stored(
+    alloc: Global,
+    heap: &mut Heap,
+    answer: HeapAnswer,
+    place: Place,
+) -> Result<(), Halt>
+    ensures { (stored : Result HeapView HeapAnswer) → ((answer ≡ HeapAnswer.Memory) ⊎ (stored ≡ Err answer)) → Works (spec.written place stored) heap.old result heap.new }
+{
+    match answer {
+        HeapAnswer::BadLength => {
+            let message = Text::from_latin_1(alloc, b"invalid array length")?;
+            throw_error(alloc, heap, BuiltIn::RangeErrorPrototype, message, place)
+        }
+        answer => Err(refused(answer, place)),
+    }
+}
+
+/// Whether the object is an array without properties that ignore writes. The global object might be none.
+fn takes_writes(heap: &Heap, object: ObjectId) -> bool
+    ensures { IsTrue result → (name : List ℕ) → spec.is_fixed heap.now object name ≡ false }
+{
+    match heap.kind(object) {
+        Kind::Array => object.0 != heap.built_in(BuiltIn::Global).0,
+        _ => false,
+    }
+}
+
+/// Writes under an index of an array whose writes are taken.
+fn put_at(
+    alloc: Global,
+    heap: &mut Heap,
+    object: ObjectId,
+    index: u32,
+    value: Value,
+    place: Place,
+) -> Result<(), Halt>
+    requires { (name : List ℕ) → spec.is_fixed heap.old object name ≡ false }
+    ensures { Works (spec.put_on object (decimal index) value place) heap.old result heap.new }
+{
+    match heap.put_index(alloc, object, index, value) {
+        Ok(()) => Ok(()),
+        Err(answer) => not_stored(alloc, heap, answer, place),
     }
 }
 
@@ -103,6 +147,29 @@ pub fn put(
         Value::Number(_) => Ok(()),
         Value::Text(_) => Ok(()),
         Value::Object(object) => put_on(alloc, heap, *object, name, value, place),
+    }
+}
+
+/// Writes a property of a value under the name that is the text of a primitive value. An index of an array becomes no
+/// text.
+pub fn put_by(
+    alloc: Global,
+    heap: &mut Heap,
+    base: &Value,
+    key: &Value,
+    value: Value,
+    place: Place,
+) -> Result<(), Halt>
+    ensures { Works (spec.put base.now (text_of key.now) value place) heap.old result heap.new }
+{
+    match (object_of(base), index_of(key)) {
+        (Some(object), Some(index)) if takes_writes(heap, object) => {
+            put_at(alloc, heap, object, index, value, place)
+        }
+        _ => {
+            let name = to_text(alloc, key)?;
+            put(alloc, heap, base, &name, value, place)
+        }
     }
 }
 

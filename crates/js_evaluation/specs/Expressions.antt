@@ -25,7 +25,7 @@ use Rattle.js_convert.specs.Texts.{text_of}
 use Rattle.run_trees.specs.Runs.{pure, reading, ◌>>=◌, ◌>>◌}
 use Rattle.js_evaluation.specs.State.{Does, charge, make, make_scope, define, write_slot, test_text, built_in_object, global_object, set_base, the_base, throw_type_error, unsupported}
 use Rattle.js_evaluation.specs.Objects.{Context, get, put, test_base, delete_property, delete_bound, read_name, read_or_undefined, write_name, closure, arity_of}
-use Rattle.js_evaluation.specs.Conversions.{Call, call_value, to_number, to_text, to_bits, binary, stepped, assigned_by, type_text}
+use Rattle.js_evaluation.specs.Conversions.{Call, call_value, text_methods, to_primitive, to_number, to_bits, binary, stepped, assigned_by, type_text}
 use Rattle.js_evaluation.specs.NativeTable.{constructs, native_of, native_name}
 
 -- ---- places
@@ -133,15 +133,15 @@ module _ (functions : List FunctionTree) (visit target : Context → ExpressionT
   arguments_from cx done no_expression = pure done
   arguments_from cx done (an_expression e es) = visit cx e >>= (λ v. arguments_from cx (done ++ v ∷ []) es)
 
-  -- the index of a value: the expression, the test of the base, and the key
-  abbrev pub key_of : Context → Value → ExpressionTree → Place → Does (List ℕ)
-  key_of cx base e p = visit cx e >>= (λ v. test_base base p >> to_text call v p)
+  -- the index of a value: the expression, the test of the base, and the key, a primitive value whose text is the name
+  abbrev pub key_of : Context → Value → ExpressionTree → Place → Does Value
+  key_of cx base e p = visit cx e >>= (λ v. test_base base p >> to_primitive call text_methods v p)
 
   -- what a suffix gives of a value, beside the value that a call behind it has as its `this`; the first of the two that
   -- are handed in is the `this` of a call
   abbrev pub suffix_at : Context → Value → Value → SuffixTree → Does (Value × Value)
   suffix_at cx this v (a_member p name) = test_base v p >> get v name p >>= (λ w. pure (v, w))
-  suffix_at cx this v (an_index p e) = key_of cx v e p >>= (λ key. get v key p >>= (λ w. pure (v, w)))
+  suffix_at cx this v (an_index p e) = key_of cx v e p >>= (λ key. get v (text_of key) p >>= (λ w. pure (v, w)))
   suffix_at cx this v (a_call p es) = arguments_from cx [] es >>= (λ vs. call_value call v this vs p >>= (λ w. pure (global_object, w)))
 
   -- each suffix is charged where it is applied; the base of the last one stays
@@ -163,7 +163,7 @@ module _ (functions : List FunctionTree) (visit target : Context → ExpressionT
   -- the last suffix of a target: its base stays, and its key is given
   abbrev pub last_at : Context → Value → SuffixTree → Does Value
   last_at cx v (a_member p name) = test_base v p >> set_base v >> pure (value.Text name)
-  last_at cx v (an_index p e) = key_of cx v e p >>= (λ key. set_base v >> pure (value.Text key))
+  last_at cx v (an_index p e) = key_of cx v e p >>= (λ key. set_base v >> pure key)
   last_at cx v (a_call p es) = pure value.Undefined
 
   abbrev pub target_suffixes : Context → Value → Value → Suffixes → Does Value

@@ -1,6 +1,4 @@
 pub mod Binary
-pub mod CallSteps
-pub mod FunctionValues
 pub mod Instances
 pub mod Nodes
 pub mod Objects

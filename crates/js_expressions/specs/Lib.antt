@@ -1,8 +1,5 @@
 pub mod Assignments
-pub mod Creation
 pub mod Deletion
-pub mod Functions
-pub mod Literals
 pub mod Operators
 pub mod Primitives
 pub mod Rows

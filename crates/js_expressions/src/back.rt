@@ -3,10 +3,6 @@ ghost use Rattle.js_frames.specs.RestOf.{after_expression, after_suffix};
 ghost use Rattle.js_machine.specs.Moves.{Moves, at};
 
 use crate::assignments::{assigned_operand, target_done, value_done};
-use crate::calls::argument_done;
-use crate::choices::{chosen, comma_from};
-use crate::creation::{called_new, new_argument_done};
-use crate::literals::{item_done, property_done};
 use crate::primitives::primitive;
 use crate::rows::{operand_done, operands_from};
 use crate::suffixes::{called, first_done, index_done, key_done};
@@ -16,6 +12,9 @@ use heap_values::Value;
 use js_convert::to_boolean;
 use js_frames::{ExpressionFrame, Methods, SuffixFrame, Wanted};
 use js_machine::{Machine, Now, Step};
+use js_primary::{
+    argument_done, called_new, chosen, comma_from, item_done, new_argument_done, property_done,
+};
 
 /// A part within an expression has a value.
 pub fn expression_back<'p>(

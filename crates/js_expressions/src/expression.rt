@@ -6,10 +6,6 @@ ghost use Rattle.js_frames.specs.Rules as rule;
 ghost use Rattle.js_machine.specs.Moves.{Moves, at};
 
 use crate::assignments::assigned;
-use crate::choices::{comma_from, conditional};
-use crate::creation::new_value;
-use crate::functions::function_value;
-use crate::literals::{array_literal, object_literal, text_literal};
 use crate::rows::chain;
 use crate::suffixes::suffixed;
 use crate::unary::unary;
@@ -18,6 +14,9 @@ use heap_steps::read_name;
 use heap_values::Value;
 use js_frames::Aim;
 use js_machine::{Machine, Now, Step};
+use js_primary::{
+    array_literal, comma_from, conditional, function_value, new_value, object_literal, text_literal,
+};
 use js_tree::{BoundName, Expression, ExpressionNode, FunctionPart, Place};
 
 /// What an expression does, behind its charge.

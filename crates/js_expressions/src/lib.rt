@@ -1,17 +1,12 @@
 //! What the machine does at expressions (ECMA-262 5.1, section 11): a function for each rule, and for what comes back.
 //!
-//! Each goes on from the machine as evaluation does from its rule. It stands on the machine, and on calls of built-in
-//! functions for objects that become primitive values.
+//! Each goes on from the machine as evaluation does from its rule. It stands on the rules of literals and calls, and on
+//! calls of built-in functions for objects that become primitive values.
 #![tactic(auto)]
 
 mod assignments;
 mod back;
-mod calls;
-mod choices;
-mod creation;
 mod expression;
-mod functions;
-mod literals;
 mod operators;
 mod primitives;
 mod rows;

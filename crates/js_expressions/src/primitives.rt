@@ -11,9 +11,9 @@ ghost use Rattle.js_expressions.specs.Primitives as spec;
 use crate::operators::{operated, right_operand, with_in};
 use crate::suffixes::suffixes_from;
 use crate::updates::update_by;
-use heap_steps::{bits_or_fault, get, number_or_fault};
+use heap_steps::{bits_or_fault, get_by, number_or_fault};
 use heap_values::{ObjectId, Value};
-use js_convert::{to_number, to_text};
+use js_convert::to_number;
 use js_frames::{Aim, Frame, Methods, Wanted};
 use js_machine::{Machine, Now, Step};
 use js_native_calls::{convert, element_converted, error_message, error_named, value_converted};
@@ -73,7 +73,7 @@ fn primitive_done<'p>(machine: &mut Machine<'p>, wanted: Wanted<'p>, value: Valu
             place,
             rest,
         } => index_by(machine, aim, base, place, rest, &value),
-        Wanted::Key { base } => key_by(machine, base, &value),
+        Wanted::Key { base } => Ok(key_by(machine, base, value)),
         Wanted::In {
             object,
             place,
@@ -150,28 +150,26 @@ fn inverted(bits: i32) -> i32
     -1 - bits
 }
 
-/// The property of a base under a name, and then the suffixes behind it.
+/// The property of a base under a key, and then the suffixes behind it.
 fn index_by<'p>(
     machine: &mut Machine<'p>,
     aim: Aim,
     base: Value,
     place: Place,
     rest: &'p [Suffix],
-    name: &Value,
+    key: &Value,
 ) -> Step<'p>
-    ensures { Moves (at machine.old with_primitive (wanted.Index aim base place rest.entry) name.now) machine.old result machine.new }
+    ensures { Moves (at machine.old with_primitive (wanted.Index aim base place rest.entry) key.now) machine.old result machine.new }
 {
-    let name = to_text(machine.alloc, name)?;
     let heap = &mut machine.state.heap;
-    let value = get(machine.alloc, heap, &base, &name, place)?;
+    let value = get_by(machine.alloc, heap, &base, key, place)?;
     suffixes_from(machine, aim, base, value, rest)
 }
 
 /// The key of a target: its base stays.
-fn key_by<'p>(machine: &mut Machine<'p>, base: Value, name: &Value) -> Step<'p>
-    ensures { Moves (at machine.old with_primitive (wanted.Key base) name.now) machine.old result machine.new }
+fn key_by<'p>(machine: &mut Machine<'p>, base: Value, key: Value) -> Now<'p>
+    ensures { Moves (at machine.old with_primitive (wanted.Key base) key) machine.old (Ok result) machine.new }
 {
-    let key = to_text(machine.alloc, name)?;
     machine.state.base = base;
-    Ok(Now::Back(Ok(Value::Text(key))))
+    Now::Back(Ok(key))
 }

@@ -10,12 +10,12 @@ ghost use Rattle.heap_steps.specs.Works.{Works};
 ghost use Rattle.js_machine.specs.Moves.{Moves, at, evaluated};
 ghost use Rattle.js_expressions.specs.Suffixes as spec;
 
-use crate::calls::first_arguments;
 use crate::primitives::primitive;
 use heap_steps::{Halt, get, test_base};
 use heap_values::{BuiltIn, Value};
 use js_frames::{Aim, Frame, Methods, SuffixFrame, Wanted};
 use js_machine::{Machine, Now, Step, charge};
+use js_primary::first_arguments;
 use js_tree::{Expression, ExpressionNode, Place, Suffix, SuffixNode};
 use object_heap::Heap;
 use std::alloc::Global;
@@ -189,7 +189,7 @@ fn last_of_target<'p>(machine: &mut Machine<'p>, base: Value, suffix: &'p Suffix
     }
 }
 
-/// The index of a base has this value, which becomes a text.
+/// The index of a base has this value, which becomes a primitive one.
 pub fn index_done<'p>(
     machine: &mut Machine<'p>,
     aim: Aim,

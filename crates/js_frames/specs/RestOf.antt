@@ -78,7 +78,7 @@ module _ (functions : List FunctionTree) (go : Within) (cx : Context) where
     pure (rule.given_by functions go cx form (value.Number n) (value.Number m))
   with_primitive (wanted.Index purpose base place rest) v =
       get base (text_of v) place >>= (λ w. suffixes_by purpose base w (suffixes_of rest.now))
-  with_primitive (wanted.Key base) v = set_base base >> pure (value.Text (text_of v))
+  with_primitive (wanted.Key base) v = set_base base >> pure v
   with_primitive (wanted.In object place next) v = has_property object (text_of v) place >>= after_operator next
   with_primitive (wanted.Left op right place next) v =
       convert.to_primitive (rule.call functions go cx) convert.number_methods right place >>= (λ b. operate op v b place next)
@@ -148,11 +148,11 @@ module _ (functions : List FunctionTree) (go : Within) (cx : Context) where
   after_suffix (of_suffix.First purpose first suffixes) v =
       rule.this_behind functions go cx first.now >>= (λ this. suffixes_by purpose this v (suffixes_of suffixes.now))
   after_suffix (of_suffix.Index purpose base place rest) v =
-      test_base base place >> convert.to_text (rule.call functions go cx) v place
-      >>= (λ key. get base key place >>= (λ w. suffixes_by purpose base w (suffixes_of rest.now)))
+      test_base base place >> convert.to_primitive (rule.call functions go cx) convert.text_methods v place
+      >>= (λ key. get base (text_of key) place >>= (λ w. suffixes_by purpose base w (suffixes_of rest.now)))
   after_suffix (of_suffix.Key base place) v =
-      test_base base place >> convert.to_text (rule.call functions go cx) v place
-      >>= (λ key. set_base base >> pure (value.Text key))
+      test_base base place >> convert.to_primitive (rule.call functions go cx) convert.text_methods v place
+      >>= (λ key. set_base base >> pure key)
   after_suffix (of_suffix.Argument purpose this callee done left place rest) v =
       rule.arguments_from functions go cx (done ++ v ∷ []) (expressions_of left.now)
       >>= (λ vs. convert.call_value (rule.call functions go cx) callee this vs place

@@ -67,7 +67,7 @@ module _ (functions : List FunctionTree) (go : Within) (cx : Context) where
   abbrev pub arguments_from : List Value → Expressions → Does (List Value)
   arguments_from = expression.arguments_from functions (evaluation.visit functions go) (evaluation.visit_target functions go) (evaluation.call functions go) (evaluation.construct functions go) cx
 
-  abbrev pub key_of : Value → ExpressionTree → Place → Does (List ℕ)
+  abbrev pub key_of : Value → ExpressionTree → Place → Does Value
   key_of = expression.key_of functions (evaluation.visit functions go) (evaluation.visit_target functions go) (evaluation.call functions go) (evaluation.construct functions go) cx
 
   abbrev pub suffix_at : Value → Value → SuffixTree → Does (Value × Value)

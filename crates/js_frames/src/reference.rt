@@ -1,7 +1,6 @@
 // What an expression refers to.
 use heap_values::Value;
 use js_tree::{BoundName, Place};
-use utf16_text::Text;
 
 /// What a value can be read from and written to (ECMA-262 5.1, section 8.7), with its place.
 #[derive(Drop)]
@@ -10,10 +9,10 @@ pub enum Reference<'p> {
         place: Place,
         name: &'p BoundName,
     },
-    /// A property of a base, by its name.
+    /// A property of a base; its name is the text of the key, a primitive value.
     Property {
         place: Place,
         base: Value,
-        key: Text,
+        key: Value,
     },
 }

@@ -28,7 +28,7 @@ use Rattle.js_evaluation.specs.Expressions as def
 use Rattle.js_evaluation.specs.Expressions.{Reference, to_name, to_property, suffix_place, referred}
 use Rattle.js_law_evaluation.proofs.OfState.{Ends, gives, halts, reads, ◌onto◌, ◌then◌, either, charges-ends, make-ends, make_scope-ends, define-ends, write_slot-ends, test_text-ends, set_base-ends, the_base-ends, throw_type_error-ends}
 use Rattle.js_law_evaluation.proofs.OfObjects.{get-ends, put-ends, test_base-ends, delete_property-ends, delete_bound-ends, read_name-ends, read_or_undefined-ends, write_name-ends, closure-ends}
-use Rattle.js_law_evaluation.proofs.OfConversions.{CallsEnd, call_value-ends, to_number-ends, to_text-ends, to_bits-ends, binary-ends, stepped-ends}
+use Rattle.js_law_evaluation.proofs.OfConversions.{CallsEnd, call_value-ends, to_number-ends, to_primitive-ends, to_bits-ends, binary-ends, stepped-ends}
 
 read-ends : (cx : Context) (r : Reference) → Ends (def.read cx r)
 read-ends cx (to_name p x) = read_name-ends cx x p
@@ -102,12 +102,12 @@ module _ (functions : List FunctionTree)
 
   key_of-ends : (cx : Context) (base : Value) (e : ExpressionTree) (p : Place)
       → Ends (def.key_of functions visit target call construct cx base e p)
-  key_of-ends cx base e p = visit-ends cx e onto (λ v. test_base-ends base p then to_text-ends call call-ends v p)
+  key_of-ends cx base e p = visit-ends cx e onto (λ v. test_base-ends base p then to_primitive-ends call call-ends text_methods v p)
 
   suffix_at-ends : (cx : Context) (this v : Value) (s : SuffixTree)
       → Ends (def.suffix_at functions visit target call construct cx this v s)
   suffix_at-ends cx this v (a_member p name) = test_base-ends v p then get-ends v name p onto (λ w. gives (v, w))
-  suffix_at-ends cx this v (an_index p e) = key_of-ends cx v e p onto (λ key. get-ends v key p onto (λ w. gives (v, w)))
+  suffix_at-ends cx this v (an_index p e) = key_of-ends cx v e p onto (λ key. get-ends v (text_of key) p onto (λ w. gives (v, w)))
   suffix_at-ends cx this v (a_call p es) =
       arguments_from-ends cx [] es onto (λ vs. call_value-ends call call-ends v this vs p onto (λ w. gives (global_object, w)))
 
@@ -129,7 +129,7 @@ module _ (functions : List FunctionTree)
 
   last_at-ends : (cx : Context) (v : Value) (s : SuffixTree) → Ends (def.last_at functions visit target call construct cx v s)
   last_at-ends cx v (a_member p name) = test_base-ends v p then set_base-ends v then gives (value.Text name)
-  last_at-ends cx v (an_index p e) = key_of-ends cx v e p onto (λ key. set_base-ends v then gives (value.Text key))
+  last_at-ends cx v (an_index p e) = key_of-ends cx v e p onto (λ key. set_base-ends v then gives key)
   last_at-ends cx v (a_call p es) = gives value.Undefined
 
   target_suffixes-ends : (cx : Context) (this v : Value) (ss : Suffixes)

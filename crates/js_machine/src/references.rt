@@ -7,9 +7,8 @@ ghost use Rattle.js_frames.specs.Parts.{reference_of};
 ghost use Rattle.heap_steps.specs.Works.{Works};
 ghost use Rattle.js_machine.specs.References.{property_place};
 
-use heap_steps::{Halt, get, put, read_name, write_name};
+use heap_steps::{Halt, get_by, put_by, read_name, write_name};
 use heap_values::{ScopeId, Value};
-use js_convert::to_text;
 use js_frames::Reference;
 use js_tree::{Expression, ExpressionNode, Place, Suffix};
 use object_heap::Heap;
@@ -53,7 +52,7 @@ pub fn referred<'p>(
         ExpressionNode::Name(name) => Ok(Reference::Name { place, name }),
         _ => {
             let place = property_place(target);
-            let key = to_text(alloc, key)?;
+            let key = key.copy(alloc)?;
             let base = base.copy(alloc)?;
             Ok(Reference::Property { place, base, key })
         }
@@ -71,7 +70,7 @@ pub fn read_reference(
 {
     match reference {
         Reference::Name { place, name } => read_name(alloc, heap, scope, name, *place),
-        Reference::Property { place, base, key } => get(alloc, heap, base, key, *place),
+        Reference::Property { place, base, key } => get_by(alloc, heap, base, key, *place),
     }
 }
 
@@ -88,6 +87,6 @@ pub fn write_reference(
 {
     match reference {
         Reference::Name { name, .. } => write_name(alloc, heap, scope, name, value, place),
-        Reference::Property { base, key, .. } => put(alloc, heap, base, key, value, place),
+        Reference::Property { base, key, .. } => put_by(alloc, heap, base, key, value, place),
     }
 }

@@ -14,7 +14,7 @@ ghost use Rattle.js_native_calls.specs.Calls as spec;
 use crate::converting::convert;
 use crate::giving::give_text;
 use array_builtins::{JoinAnswer, join_texts};
-use heap_steps::{Halt, get};
+use heap_steps::{Halt, get_by};
 use heap_values::{ObjectId, Value};
 use js_convert::to_text;
 use js_evaluation::FaultCode;
@@ -138,8 +138,8 @@ fn element(
 ) -> Result<Value, Halt>
     ensures { Works (objects.get (value_is.Object array) (decimal index) place) heap.old result heap.new }
 {
-    let name = to_text(alloc, &Value::Number(Whole::from(index)))?;
-    get(alloc, heap, &Value::Object(array), &name, place)
+    let key = Value::Number(Whole::from(index));
+    get_by(alloc, heap, &Value::Object(array), &key, place)
 }
 
 /// Puts the text of an element that is no object behind others.

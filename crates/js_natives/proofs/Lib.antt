@@ -1,4 +1,3 @@
 pub mod Charging
 pub mod Elements
 pub mod Parts
-pub mod Short

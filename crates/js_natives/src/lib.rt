@@ -1,9 +1,9 @@
-//! The built-in functions that code runs: what becomes of the values that are handed to them, what their walks cost, and
-//! what those do that call nothing and ask nobody.
+//! The built-in functions that code runs: what becomes of the values that are handed to them, what their walks cost,
+//! and what those do that call nothing and ask nobody.
 //!
 //! Each is a function of the definition of evaluation (ECMA-262 5.1, section 15, cut to this profile; the page on the
-//! Netscape Navigator Proxy Auto-Config format). It stands on that definition and its table of natives, on what rules do
-//! to the heap, and on the methods of texts, numbers and arrays.
+//! Netscape Navigator Proxy Auto-Config format). It stands on that definition and its table of natives, on what rules
+//! do to the heap, and on the methods of texts, numbers and arrays.
 #![tactic(auto)]
 
 mod arrays;

@@ -6,20 +6,12 @@ ghost use Rattle.js_evaluation.specs.Objects.{elements_from};
 ghost use Rattle.js_evaluation.specs.State.{define};
 ghost use Rattle.heap_steps.specs.Works.{Works};
 
-use heap_steps::{Halt, define, make_by, spend};
+use heap_steps::{Halt, define_at, make_by, spend};
 use heap_values::{BuiltIn, Kind, ObjectId, Value};
-use js_convert::to_text;
 use js_tree::Place;
-use object_heap::{Heap, Marks};
+use object_heap::Heap;
 use std::alloc::Global;
 use utf16_text::{List, Memory, Text};
-use whole_number::Whole;
-
-/// The marks of an element.
-const ELEMENT: Marks = Marks {
-    listed: true,
-    deletable: true,
-};
 
 /// Puts values under the indexes from 0 on, listed and deletable.
 pub fn define_elements(
@@ -51,9 +43,8 @@ fn define_element(
 ) -> Result<(), Halt>
     ensures { Works (define object (decimal index) value.now true true place) heap.old result heap.new }
 {
-    let name = to_text(alloc, &Value::Number(Whole::from(index)))?;
     let element = value.copy(alloc)?;
-    define(alloc, heap, object, &name, element, ELEMENT, place)
+    define_at(alloc, heap, object, index, element, place)
 }
 
 /// The next number. Memory comes past 32 bits, which nothing in memory needs.

@@ -30,8 +30,8 @@ pub fn argument(alloc: Global, arguments: &[Value], at: usize) -> Result<Value, 
     }
 }
 
-/// Takes what the walk of a function of the proxy format costs, whose arguments are converted: the units of their texts,
-/// for `shExpMatch` each place of the text beside each of the pattern, and nothing for the ranges.
+/// Takes what the walk of a function of the proxy format costs, whose arguments are converted: the units of their
+/// texts, for `shExpMatch` each place of the text beside each of the pattern, and nothing for the ranges.
 pub fn charge_walk(
     alloc: Global,
     fuel: &mut u64,

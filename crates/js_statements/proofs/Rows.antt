@@ -11,7 +11,7 @@ use Rattle.run_trees.specs.Runs.{◌>>◌}
 use Rattle.js_frames.specs.Rules as rule
 use Rattle.js_machine.specs.declared.machine.Machine.{Machine}
 use Rattle.js_machine.specs.Moves.{at}
-use Rattle.js_machine.proofs.Lists.{list_step, list_end, list_rest}
+use Rattle.heap_steps.proofs.Lists.{list_step, list_end, list_rest}
 
 -- a list of which the first part is taken
 pub first_of_list : {X : Type 0} (xs : List X) (x : X) → x ≡ get_or xs 0 x → 1 ≤ length xs → xs ≡ x ∷ take (length xs - 1) (drop 1 xs)

@@ -1,5 +1,5 @@
 use Rattle.std.proofs.Common.{drop, ◌∙◌, sym}
-use Rattle.js_machine.proofs.Lists.{list_step, list_rest, list_end}
+use Rattle.heap_steps.proofs.Lists.{list_step, list_rest, list_end}
 use Rattle.js_entries.proofs.Steps.{place_whole, place_here, place_further}
 use Rattle.js_binding.specs.Names.{arguments_name}
 use Rattle.js_entries.proofs.arguments.arguments_slot.Goals as goal

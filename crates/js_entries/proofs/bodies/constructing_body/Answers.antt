@@ -1,5 +1,5 @@
 use Rattle.std.proofs.Common.{arith, refl}
-use Rattle.js_machine.proofs.Lists.{list_step, list_rest, list_end}
+use Rattle.heap_steps.proofs.Lists.{list_step, list_rest, list_end}
 use Rattle.js_entries.proofs.bodies.constructing_body.Goals as goal
 
 pub returns-in-empty : goal.returns-in-empty

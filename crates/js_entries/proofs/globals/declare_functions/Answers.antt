@@ -1,5 +1,5 @@
 use Rattle.std.proofs.Common.{◌<◌, drop, length, map, arith, refl}
-use Rattle.js_machine.proofs.Lists.{list_step, list_rest, list_end}
+use Rattle.heap_steps.proofs.Lists.{list_step, list_rest, list_end}
 use Rattle.js_entries.proofs.Steps.{global_then, global_stops}
 use Rattle.js_tree.specs.Tree.{statements_of}
 use Rattle.js_tree.specs.View.{function_of}

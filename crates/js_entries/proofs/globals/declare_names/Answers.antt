@@ -1,5 +1,5 @@
 use Rattle.std.proofs.Common.{◌<◌, drop, length, arith, refl}
-use Rattle.js_machine.proofs.Lists.{list_step, list_rest, list_end}
+use Rattle.heap_steps.proofs.Lists.{list_step, list_rest, list_end}
 use Rattle.js_entries.proofs.Steps.{variable_then, variable_stops}
 use Rattle.js_entries.proofs.globals.declare_names.Goals as goal
 

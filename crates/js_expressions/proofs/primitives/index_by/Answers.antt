@@ -1,14 +1,8 @@
-use Rattle.std.proofs.Common.{refl}
-use Rattle.js_machine.proofs.Steps.{forgets, works_then, works_stops}
-use Rattle.heap_values.specs.declared.value.Value.TheVariants as value
-use Rattle.js_machine.specs.Moves.{at}
+use Rattle.js_machine.proofs.Steps.{works_then, works_stops}
 use Rattle.js_expressions.proofs.primitives.index_by.Goals as goal
 
-pub returns-in_err-name : goal.returns-in_err-name
-returns-in_err-name c = forgets _ _ c.from_residual.ensures.1 refl
-
 pub returns-in_err-value : goal.returns-in_err-value
-returns-in_err-value c = works_stops _ _ _ _ _ _ c.from_residual-in_err-value.ensures.1 (rw c.in_ok-name.ensures at c.in_err-value.ensures)
+returns-in_err-value c = works_stops _ _ _ _ _ _ c.from_residual.ensures.1 c.in_err-value.ensures
 
 pub returns : goal.returns
-returns c = works_then _ _ _ _ _ (rw c.in_ok-name.ensures at c.in_ok-value.ensures) c.suffixes_from.ensures
+returns c = works_then _ _ _ _ _ c.in_ok-value.ensures c.suffixes_from.ensures

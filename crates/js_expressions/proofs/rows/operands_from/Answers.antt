@@ -1,5 +1,5 @@
 use Rattle.std.proofs.Common.{drop, refl, sym, ◌∙◌}
-use Rattle.js_machine.proofs.Lists.{list_step, list_rest, list_end}
+use Rattle.heap_steps.proofs.Lists.{list_step, list_rest, list_end}
 use Rattle.js_native_calls.proofs.Steps.{gives}
 use Rattle.js_expressions.proofs.Binary.{decided_moves, evaluated_moves}
 use Rattle.js_machine.specs.Moves.{at}

@@ -1,5 +1,5 @@
 use Rattle.std.proofs.Common.{drop, sym, ◌∙◌}
-use Rattle.js_machine.proofs.Lists.{list_step, list_rest, list_end}
+use Rattle.heap_steps.proofs.Lists.{list_step, list_rest, list_end}
 use Rattle.js_machine.specs.Moves.{at}
 use Rattle.js_expressions.proofs.SuffixSteps.{spent_suffix, last_charged, next_charged, member_then, member_stops}
 use Rattle.js_expressions.proofs.suffixes.suffixes_from.Goals as goal

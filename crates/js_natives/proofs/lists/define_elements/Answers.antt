@@ -1,5 +1,5 @@
 use Rattle.std.proofs.Common.{◌<◌, drop, length, arith, refl}
-use Rattle.js_machine.proofs.Lists.{list_step, list_rest, list_end}
+use Rattle.heap_steps.proofs.Lists.{list_step, list_rest, list_end}
 use Rattle.heap_steps.proofs.Chains.{forgets}
 use Rattle.js_natives.proofs.Elements.{element_then, element_stops}
 use Rattle.js_natives.proofs.lists.define_elements.Goals as goal

@@ -1,5 +1,5 @@
 use Rattle.std.proofs.Common.{◌≡◌, ◌+◌, drop, arith, ap}
-use Rattle.js_machine.proofs.Lists.{list_step}
+use Rattle.heap_steps.proofs.Lists.{list_step}
 use Rattle.js_evaluation.specs.NativeWork.{lengths_in, elements_in}
 use Rattle.js_natives.proofs.Charging.{charge_stops}
 use Rattle.js_natives.proofs.walks.charge_lengths.Goals as goal

@@ -1,5 +1,5 @@
 use Rattle.std.proofs.Common.{◌≡◌, ◌+◌, drop, length, arith, ap}
-use Rattle.js_machine.proofs.Lists.{list_step}
+use Rattle.heap_steps.proofs.Lists.{list_step}
 use Rattle.js_convert.specs.Texts.{text_of}
 use Rattle.js_evaluation.specs.PacNatives.{units_of}
 use Rattle.js_natives.proofs.Charging.{charge_stops}

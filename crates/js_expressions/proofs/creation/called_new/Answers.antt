@@ -1,5 +1,0 @@
-use Rattle.js_machine.specs.Moves.{at}
-use Rattle.js_expressions.proofs.creation.called_new.Goals as goal
-
-pub returns : goal.returns
-returns c = rw c.new-done.ensures at c.new_arguments.ensures

@@ -1,0 +1,4 @@
+pub mod Calls
+pub mod Creation
+pub mod Functions
+pub mod Literals
