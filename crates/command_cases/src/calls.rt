@@ -1,8 +1,8 @@
-// Calls of `pac` over files in memory.
+// Calls of `pac` over objects in memory.
 ghost use Rattle.std.specs.Prelude.{◌≡◌, ◌<◌};
 
+use crate::network::Network;
 use anyhow::Result;
-use case_rows::written_octets;
 use pac_command::{Status, pac};
 use pac_ports::{FixedClock, ListDice, MemoryFiles, MemoryLink, Sink};
 use std::alloc::Global;
@@ -10,51 +10,49 @@ use std::marker::Brand;
 use std::sync::ledger::{Blank, Ledger};
 use step_counter::Steps;
 
-/// Files in which a script is `s.pac`, and a names file `n`.
-pub(crate) fn files_of(alloc: Global, script: &[u8], names: &[u8]) -> Result<MemoryFiles> {
-    let mut files = MemoryFiles::new(alloc);
-    files.add(alloc, "s.pac", script)?;
-    files.add(alloc, "n", names)?;
-    Ok(files)
-}
-
 /// The status of words that are parted by blanks.
 pub(crate) fn status_of<K: Sink>(
     alloc: Global,
     line: &str,
     files: &mut MemoryFiles,
     out: &mut K,
+    network: &mut Network,
 ) -> Result<Status> {
+    let words = words_in(alloc, line)?;
+    Ok(called::<K, Brand>(
+        alloc,
+        &words,
+        files,
+        out,
+        &mut network.link,
+        &mut network.dice,
+        Blank::new(1),
+    ))
+}
+
+fn words_in(alloc: Global, line: &str) -> Result<Vec<String>> {
     let mut words = Vec::new(alloc);
     for word in line.split_whitespace() {
         words.push(String::from_str(alloc, word)?)?;
     }
-    called::<K, Brand>(alloc, &words, files, out, Blank::new(1))
+    Ok(words)
 }
 
-// The status of words over files and a sink.
+// The top call, in the first second of 1970. No other function calls it, so its contract is met once.
 fn called<K: Sink, L: Ledger>(
     alloc: Global,
     words: &Vec<String>,
     files: &mut MemoryFiles,
     out: &mut K,
+    link: &mut MemoryLink,
+    dice: &mut ListDice,
     blank: Blank,
-) -> Result<Status>
+) -> Status
     requires name { blank.name ≡ L.name }
     requires parts { blank.parts ≡ L.parts }
     requires some { 0 < blank.parts }
 {
-    let mut link = MemoryLink::new(alloc, 0)?;
     let mut clock = FixedClock::new(0);
-    let mut dice = ListDice::new(Vec::new(alloc));
     let mut runs = Steps::<L>::new(blank);
-    Ok(pac(
-        alloc, words, files, out, &mut link, &mut clock, &mut dice, &mut runs,
-    ))
-}
-
-/// A status, and what is written, as rows tell them.
-pub(crate) fn written(alloc: Global, status: Status, bytes: &[u8]) -> Result<String> {
-    let bytes = written_octets(alloc, bytes)?;
-    Ok(format!(in alloc; "{status:?} '{}'", bytes.as_str())?)
+    pac(alloc, words, files, out, link, &mut clock, dice, &mut runs)
 }

@@ -25,6 +25,12 @@ pub(crate) fn reply(alloc: Global, number: u16, name: &str, addresses: &str) -> 
     }
 }
 
+/// The reply for example.com under 4660, with the address 93.184.216.34: 45 octets, whose flags stand at 2 and whose
+/// question at 12.
+pub(crate) fn plain_reply(alloc: Global) -> Result<Vec<u8>> {
+    reply(alloc, 4660, "example.com", "93.184.216.34")
+}
+
 fn addressed(alloc: Global, number: u16, name: &str, addresses: &str) -> Result<Vec<u8>> {
     let count = u16::try_from(addresses.split(',').count())?;
     let mut message = asked(alloc, number, REPLY, count, name)?;

@@ -1,14 +1,14 @@
 // What comes over the link.
-use crate::messages::reply;
+use crate::messages::{plain_reply, reply};
 use anyhow::{Context, Result, ensure};
 use case_rows::octets;
 use pac_ports::{LinkEvent, MemoryLink};
 use std::alloc::Global;
 
-/// A link over which these events come, which are parted by blanks: `tick*N`, `empty*N`, `octets:` and a datagram as
-/// fields write it, or a reply `NAME/NUMBER=ADDRESSES`. Behind `fails:` stands the number of a call that fails.
+/// A link over which these events come, which are parted by blanks: `tick*N`, `empty*N`, or a datagram. Behind `fails:`
+/// stands the number of a call that fails.
 pub(crate) fn link_over(alloc: Global, coming: &str) -> Result<MemoryLink> {
-    let mut link = MemoryLink::new(alloc, 10_000)?;
+    let mut link = MemoryLink::new(alloc, 20_000)?;
     for event in coming.split_whitespace() {
         add(alloc, &mut link, event)?;
     }
@@ -22,10 +22,8 @@ fn add(alloc: Global, link: &mut MemoryLink, event: &str) -> Result<()> {
         add_ticks(alloc, link, count.parse::<u32>()?)?;
     } else if let Some(count) = event.strip_prefix("empty*") {
         add_empty(alloc, link, count.parse::<u32>()?)?;
-    } else if let Some(written) = event.strip_prefix("octets:") {
-        add_datagram(alloc, link, octets(alloc, written)?)?;
     } else {
-        add_datagram(alloc, link, reply_in(alloc, event)?)?;
+        add_datagram(alloc, link, datagram_in(alloc, event)?)?;
     }
     Ok(())
 }
@@ -49,6 +47,37 @@ fn add_datagram(alloc: Global, link: &mut MemoryLink, datagram: Vec<u8>) -> Resu
     ensure!(datagram.len() <= 512, "too long");
     link.event(alloc, LinkEvent::Datagram(datagram))?;
     Ok(())
+}
+
+/// A datagram: `octets:` and what a field writes, a reply `NAME/NUMBER=ADDRESSES`, `reply` for the plain one, `front:N`
+/// for its first N octets, or `octet:AT:VALUE` for it with that octet.
+fn datagram_in(alloc: Global, event: &str) -> Result<Vec<u8>> {
+    if let Some(written) = event.strip_prefix("octets:") {
+        octets(alloc, written)
+    } else if let Some(count) = event.strip_prefix("front:") {
+        front(alloc, count.parse::<usize>()?)
+    } else if let Some(change) = event.strip_prefix("octet:") {
+        changed(alloc, change)
+    } else if event == "reply" {
+        plain_reply(alloc)
+    } else {
+        reply_in(alloc, event)
+    }
+}
+
+fn front(alloc: Global, count: usize) -> Result<Vec<u8>> {
+    let mut message = plain_reply(alloc)?;
+    message.truncate(count);
+    Ok(message)
+}
+
+fn changed(alloc: Global, change: &str) -> Result<Vec<u8>> {
+    let (at, value) = change.split_once(':').context("a place and a value")?;
+    let at = at.parse::<usize>()?;
+    let mut message = plain_reply(alloc)?;
+    ensure!(at < message.len(), "no such octet");
+    message[at] = value.parse::<u8>()?;
+    Ok(message)
 }
 
 fn reply_in(alloc: Global, event: &str) -> Result<Vec<u8>> {
