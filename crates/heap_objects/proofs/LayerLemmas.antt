@@ -6,9 +6,9 @@ use Rattle.std.proofs.lemmas.Bool.{cases_Bool}
 use Rattle.std.proofs.lemmas.List.{append-nil}
 use Rattle.utf16_text.specs.Comparing.{texts_equal}
 use Rattle.heap_values.specs.declared.property.Property.{Property}
-use Rattle.heap_objects.specs.Properties.{property_at, with_property, with_properties, without_property}
-use Rattle.heap_objects.specs.Places.{NamesDiffer}
-use Rattle.heap_objects.proofs.RowLemmas.{same_name, differs_from_first, with_property-missing, without_property-missing}
+use Rattle.heap_elements.specs.Properties.{property_at, with_property, with_properties, without_property}
+use Rattle.heap_elements.specs.Places.{NamesDiffer}
+use Rattle.heap_elements.proofs.RowLemmas.{same_name, differs_from_first, with_property-missing, without_property-missing}
 
 abbrev Entries : Type 0
 Entries = List (List ℕ × Property)

@@ -2,5 +2,4 @@ pub mod KeyLemmas
 pub mod LayerLemmas
 pub mod ObjectLemmas
 pub mod PlaceLemmas
-pub mod RowLemmas
 pub mod TableLemmas

@@ -9,10 +9,10 @@ use Rattle.std.proofs.lemmas.Bool.{cases_Bool}
 use Rattle.std.proofs.lemmas.Map.Text.{is_eq-slice_cmp}
 use Rattle.utf16_text.specs.Comparing.{texts_equal}
 use Rattle.heap_values.specs.declared.property.Property.{Property}
-use Rattle.heap_objects.specs.Properties.{property_at, with_property, without_property}
-use Rattle.heap_objects.specs.Places.{NamesDiffer}
+use Rattle.heap_elements.specs.Properties.{property_at, with_property, without_property}
+use Rattle.heap_elements.specs.Places.{NamesDiffer}
 use Rattle.heap_objects.specs.Slots.{standing, place_in, IsIndexOf, Updated, moved}
-use Rattle.heap_objects.proofs.RowLemmas.{same_name, with_property-missing, NamesDiffer-with, NamesDiffer-without}
+use Rattle.heap_elements.proofs.RowLemmas.{same_name, with_property-missing, NamesDiffer-with, NamesDiffer-without}
 
 abbrev pub Slots : Type 0
 Slots = List (Option (List ℕ × Property))

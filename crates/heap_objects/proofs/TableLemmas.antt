@@ -6,7 +6,7 @@ use Rattle.std.specs.Borrow.{Bor}
 use Rattle.std.specs.Global.{Box}
 use Rattle.std.specs.Option.{option_map}
 use Rattle.heap_values.specs.declared.property.Property.{Property}
-use Rattle.heap_objects.specs.Properties.{property_at, with_properties, indexed_into, other_names, listed_names_of}
+use Rattle.heap_elements.specs.Properties.{property_at, with_properties, indexed_into, other_names, listed_names_of}
 use Rattle.heap_objects.specs.Slots.{standing, place_in}
 use Rattle.heap_objects.specs.declared.table_row.Entry.{Entry}
 use Rattle.heap_objects.specs.TableRows.{Row, row_entry, row_property, row_read, slot_of, slots_of, TableView, has_name, is_gone}

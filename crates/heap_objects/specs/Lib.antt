@@ -1,6 +1,3 @@
-pub mod Names
-pub mod Properties
-pub mod Places
 pub mod Slots
 pub mod Forms
 pub mod TableRows

@@ -13,9 +13,9 @@ use Rattle.heap_values.specs.declared.property.Property.{Property}
 use Rattle.heap_values.specs.declared.value.Value.{Value}
 use Rattle.heap_values.specs.declared.value.Value.TheVariants.{Number}
 use Rattle.heap_values.specs.Views.{ObjectView}
-use Rattle.heap_objects.specs.Names.{array_index}
+use Rattle.heap_elements.specs.Names.{array_index}
 use Rattle.heap_objects.specs.declared.marks.Marks.{Marks}
-use Rattle.heap_objects.specs.Properties.{property_at, with_property, without_property}
+use Rattle.heap_elements.specs.Properties.{property_at, with_property, without_property}
 use Rattle.heap_objects.specs.TableRows.{Row, entries_of}
 
 -- an object without properties

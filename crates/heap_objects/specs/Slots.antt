@@ -3,7 +3,7 @@ use Rattle.std.specs.Prelude.{◌≡◌, ℕ, ◌≤◌, suc, List, [], ◌∷�
 use Rattle.std.specs.Option.{option_map}
 use Rattle.std.specs.Str.{bytes_eq}
 use Rattle.heap_values.specs.declared.property.Property.{Property}
-use Rattle.heap_objects.specs.Places.{NamesDiffer}
+use Rattle.heap_elements.specs.Places.{NamesDiffer}
 
 -- what stands in the row, in order
 abbrev pub standing : List (Option (List ℕ × Property)) → List (List ℕ × Property)

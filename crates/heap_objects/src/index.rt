@@ -3,7 +3,7 @@ ghost use Rattle.std.specs.Prelude.{◌≡◌, ◌≤◌, ℕ, List, Some, None,
 ghost use Rattle.std.specs.Ordering.{nat_cmp};
 ghost use Rattle.std.specs.BTreeMap.{get};
 ghost use Rattle.std.specs.Cmp.Lexicographic.{slice_cmp};
-ghost use Rattle.heap_objects.specs.Places.{NamesDiffer};
+ghost use Rattle.heap_elements.specs.Places.{NamesDiffer};
 ghost use Rattle.heap_objects.specs.Slots.{Updated, moved, standing, place_in};
 
 use crate::slots::Slot;

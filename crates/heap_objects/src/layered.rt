@@ -1,14 +1,15 @@
 // The properties of one object, in two layers.
-ghost use Rattle.std.specs.Prelude.{◌≡◌, [], is_some, map, IfOk, OnOk, OnErr};
+ghost use Rattle.std.specs.Prelude.{◌≡◌, [], Some, None, true, is_some, map, IfOk, IfSome, OnOk, OnErr};
+ghost use Rattle.std.specs.Fmt.{decimal};
 ghost use Rattle.std.specs.Option.{option_copied, option_map};
-ghost use Rattle.heap_objects.specs.Properties.{
+ghost use Rattle.heap_elements.specs.Properties.{
   property_at,
   with_property,
   with_properties,
   without_property,
   listed_names_of,
 };
-ghost use Rattle.heap_objects.specs.Places.{NamesDiffer};
+ghost use Rattle.heap_elements.specs.Places.{NamesDiffer};
 ghost use Rattle.heap_objects.specs.Object.{found_property, marks_if};
 ghost use Rattle.heap_objects.specs.TableRows.{entries_of, row_read, row_property};
 ghost use Rattle.heap_objects.specs.Layers.{layers, left_of, AreMarked};
@@ -17,6 +18,7 @@ use crate::marks::Marks;
 use crate::properties::Properties;
 use crate::table_row::{TableRow, found_in_row, marks_of_row};
 use crate::table_rows::{MOST_ROWS, TableRows};
+use heap_elements::index_name;
 use heap_values::{Content, Found, Property};
 use std::alloc::Global;
 use std::marker::Model;
@@ -35,7 +37,7 @@ pub(crate) struct Layered {
 impl Model for Layered {
     ghost use Rattle.std.specs.Prelude.{List, ℕ};
     ghost use Rattle.heap_values.specs.declared.property.Property.{Property};
-    ghost use Rattle.heap_objects.specs.Places.{NamesDiffer};
+    ghost use Rattle.heap_elements.specs.Places.{NamesDiffer};
     ghost use Rattle.heap_objects.specs.Layers.{layers, AreMarked};
 
     ghost Value = { List (List ℕ × Property) };
@@ -84,6 +86,36 @@ impl Layered {
         }
     }
 
+    /// The property under an index, where it is one of the elements. No name is made for it.
+    pub(crate) fn element(&self, index: u32) -> Option<&Property>
+        ensures { IfSome result (λ property. Some property.now ≡ property_at self.now (decimal index)) }
+    {
+        self.own.element(index)
+    }
+
+    /// Whether the next element has this index. Nothing stands under it.
+    pub(crate) fn is_next(&self, index: u32) -> bool
+        ensures { result ≡ true → property_at self.now (decimal index) ≡ None }
+    {
+        has_no_table(&self.table) && self.own.is_next(index)
+    }
+
+    /// The marks of the property under an index. No name is made for an element.
+    pub(crate) fn marks_at(&self, alloc: Global, index: u32) -> Result<Option<Marks>, Memory>
+        ensures { IfOk result (λ marks. marks ≡ marks_if (property_at self.now (decimal index))) }
+    {
+        if let Some(property) = self.element(index) {
+            return Ok(Some(Marks {
+                listed: property.listed,
+                deletable: property.deletable,
+            }));
+        }
+        if self.is_next(index) {
+            return Ok(None);
+        }
+        Ok(self.marks(&index_name(alloc, index)?))
+    }
+
     /// The marks of the property of this name.
     pub(crate) fn marks(&self, name: &Text) -> Option<Marks>
         ensures { result ≡ marks_if (property_at self.now name.now) }
@@ -120,6 +152,22 @@ impl Layered {
         Ok(())
     }
 
+    /// Gives the index the property: in its place where it is there, else at the end. No name is made for an element.
+    pub(crate) fn set_index(
+        &mut self,
+        alloc: Global,
+        index: u32,
+        property: Property,
+    ) -> Result<(), Memory>
+        ensures ok { OnOk result (self.new ≡ with_property self.old (decimal index) property) }
+        ensures unchanged { OnErr result (self.new ≡ self.old) }
+    {
+        if has_no_table(&self.table) {
+            return self.own.set_index(alloc, index, property);
+        }
+        self.set(alloc, &index_name(alloc, index)?, property)
+    }
+
     /// Takes the property of this name away, where there is one. The others keep their order.
     pub(crate) fn remove(&mut self, name: &Text)
         ensures { self.new ≡ without_property self.old name.now }
@@ -143,6 +191,15 @@ fn row_in<'a>(table: &'a Option<Box<TableRows>>, name: &Text) -> Option<&'a Tabl
     match table {
         None => None,
         Some(table) => table.find(name),
+    }
+}
+
+fn has_no_table(table: &Option<Box<TableRows>>) -> bool
+    ensures { result ≡ true → left_of table.now ≡ [] }
+{
+    match table {
+        None => true,
+        Some(_) => false,
     }
 }
 
@@ -196,7 +253,8 @@ fn settled(
     Ok(all)
 }
 
-fn found_in_property(alloc: Global, property: &Property) -> Result<Found, Memory>
+/// What stands under the name of a property.
+pub(crate) fn found_in_property(alloc: Global, property: &Property) -> Result<Found, Memory>
     ensures { IfOk result (λ found. found ≡ found_property (Some property.now)) }
 {
     match &property.content {

@@ -1,5 +1,6 @@
 // One object.
-ghost use Rattle.std.specs.Prelude.{◌≡◌, ◌-◌, false, IfOk, OnOk, OnErr, map, fold};
+ghost use Rattle.std.specs.Prelude.{◌≡◌, ◌-◌, ◌⊎◌, false, IfOk, IfSome, OnOk, OnErr, map, fold};
+ghost use Rattle.std.specs.Fmt.{decimal};
 ghost use Rattle.heap_objects.specs.Object.{
   empty_object,
   own_found,
@@ -17,14 +18,14 @@ ghost use Rattle.heap_objects.specs.Object.{
   object_cut,
   index_names,
 };
-ghost use Rattle.heap_objects.specs.Places.{NamesDiffer};
+ghost use Rattle.heap_elements.specs.Places.{NamesDiffer};
 ghost use Rattle.heap_objects.specs.TableRows.{entries_of, row_read};
-ghost use Rattle.heap_objects.specs.Properties.{listed_names_of, without_property};
+ghost use Rattle.heap_elements.specs.Properties.{listed_names_of, without_property};
 
-use crate::layered::Layered;
+use crate::layered::{Layered, found_in_property};
 use crate::marks::Marks;
-use crate::names::array_index;
 use crate::table_row::TableRow;
+use heap_elements::{array_index, index_name};
 use heap_values::{Content, Found, Kind, ObjectId, Property, Value};
 use std::alloc::Global;
 use std::marker::Model;
@@ -122,6 +123,16 @@ impl Object {
         self.properties.find(alloc, name)
     }
 
+    /// What the object itself has under an index, where it is one of the elements. No name is made for it.
+    pub fn find_element(&self, alloc: Global, index: u32) -> Result<Found, Memory>
+        ensures { IfOk result (λ found. (found ≡ Found.Absent) ⊎ (found ≡ own_found self.now (decimal index))) }
+    {
+        match self.properties.element(index) {
+            None => Ok(Found::Absent),
+            Some(property) => found_in_property(alloc, property),
+        }
+    }
+
     /// The marks of the object's own property of this name. The length of an array is none.
     pub fn own_marks(&self, name: &Text) -> Option<Marks>
         ensures { result ≡ own_marks self.now name.now }
@@ -142,6 +153,22 @@ impl Object {
         }
     }
 
+    /// The length that the object has once something stands under an index.
+    pub fn grown_length_at(&self, index: u32) -> u32
+        ensures { result ≡ grown_length_of self.now (decimal index) }
+    {
+        match self.kind {
+            Kind::Array => {
+                if index < u32::MAX {
+                    self.length.max(index + 1)
+                } else {
+                    self.length
+                }
+            }
+            _ => self.length,
+        }
+    }
+
     /// The cells that a write under `name` takes.
     pub fn put_cost(&self, name: &Text) -> u64
         ensures { result ≡ put_cost_of self.now name.now }
@@ -153,6 +180,21 @@ impl Object {
         }
     }
 
+    /// The cells that a write under an index takes, where an element has it or the next would. No name is made for it.
+    pub fn element_cost(&self, index: u32) -> Option<u64>
+        ensures cost { IfSome result (λ cost. cost ≡ put_cost_of self.now (decimal index)) }
+        ensures no_length { is_length self.now.kind (decimal index) ≡ false }
+    {
+        let steps = u64::from(self.grown_length_at(index)) - u64::from(self.length);
+        if self.properties.element(index).is_some() {
+            return Some(steps);
+        }
+        if self.properties.is_next(index) {
+            return Some(steps + 1);
+        }
+        None
+    }
+
     /// Writes a value under a name that is not the length of an array. A new property is listed and can be deleted.
     pub fn put(&mut self, alloc: Global, name: &Text, value: Value) -> Result<(), Memory>
         requires { is_length self.old.kind name.now ≡ false }
@@ -161,6 +203,18 @@ impl Object {
     {
         let property = written(self.properties.marks(name), value);
         self.define(alloc, name, property)
+    }
+
+    /// Writes a value under an index. A new property is listed and can be deleted. No name is made for an element.
+    pub fn put_index(&mut self, alloc: Global, index: u32, value: Value) -> Result<(), Memory>
+        ensures ok { OnOk result (self.new ≡ object_after self.old (decimal index) value) }
+        ensures unchanged { OnErr result (self.new ≡ self.old) }
+    {
+        let property = written(self.properties.marks_at(alloc, index)?, value);
+        let grown = self.grown_length_at(index);
+        self.properties.set_index(alloc, index, property)?;
+        self.length = grown;
+        Ok(())
     }
 
     /// Gives a name that is not the length of an array this property.
@@ -241,7 +295,7 @@ fn names_between(alloc: Global, from: u32, to: u32) -> Result<TextList, Memory>
 {
     let mut names = TextList::new(alloc);
     for index in from..to {
-        names.push(alloc, Whole::from(index).to_text(alloc)?)?;
+        names.push(alloc, index_name(alloc, index)?)?;
     }
     Ok(names)
 }

@@ -1,7 +1,7 @@
 // Many properties, each at its place in the order of creation.
 ghost use Rattle.std.specs.Prelude.{◌≡◌, [], IfOk, OnOk, OnErr};
 ghost use Rattle.std.specs.Option.{option_copied};
-ghost use Rattle.heap_objects.specs.Properties.{
+ghost use Rattle.heap_elements.specs.Properties.{
   property_at,
   with_property,
   with_properties,

@@ -19,10 +19,10 @@ ghost use Rattle.std.specs.Prelude.{
 };
 ghost use Rattle.std.specs.Option.{option_copied};
 ghost use Rattle.heap_objects.specs.Slots.{property_in, standing};
-ghost use Rattle.heap_objects.specs.Properties.{listed_names_of, with_properties};
+ghost use Rattle.heap_elements.specs.Properties.{listed_names_of, with_properties};
 
-use crate::listing::{join_names, list_name};
 use crate::properties::Properties;
+use heap_elements::{join_names, list_name};
 use heap_values::Property;
 use std::alloc::Global;
 use std::collections::BTreeMap;

@@ -1,8 +1,8 @@
 // The rows of a table that a built-in object begins with, until they are deleted.
 ghost use Rattle.std.specs.Prelude.{◌≡◌, ◌<◌, ◌≤◌, ◌∷◌, [], map, length, slice_get, IfSome, OnOk};
 ghost use Rattle.std.specs.Option.{option_copied, option_map};
-ghost use Rattle.heap_objects.specs.Properties.{property_at, without_property, with_properties};
-ghost use Rattle.heap_objects.specs.Places.{NamesDiffer};
+ghost use Rattle.heap_elements.specs.Properties.{property_at, without_property, with_properties};
+ghost use Rattle.heap_elements.specs.Places.{NamesDiffer};
 ghost use Rattle.heap_objects.specs.Slots.{place_in, standing};
 ghost use Rattle.heap_objects.specs.TableRows.{
   entries_of,

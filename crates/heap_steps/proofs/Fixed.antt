@@ -6,7 +6,7 @@ use Rattle.heap_values.specs.declared.ids.Kind.TheVariants as kind
 use Rattle.heap_values.specs.declared.property.Property.{Property}
 use Rattle.heap_values.specs.Views.{ObjectView}
 use Rattle.heap_objects.specs.Object.{is_deletable, is_length, marks_if}
-use Rattle.heap_objects.specs.Properties.{property_at}
+use Rattle.heap_elements.specs.Properties.{property_at}
 use Rattle.object_heap.specs.Heap.{kind_in, own_marks_in}
 use Rattle.js_evaluation.specs.Objects.{is_fixed_in, is_fixed_of}
 use Rattle.heap_steps.specs.Works.{is_kept}

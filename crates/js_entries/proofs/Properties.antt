@@ -14,7 +14,7 @@ use Rattle.heap_values.specs.declared.value.Value.TheVariants as value
 use Rattle.heap_values.specs.Views.{ObjectView}
 use Rattle.heap_objects.specs.declared.marks.Marks.{Marks}
 use Rattle.heap_objects.specs.Object.{found_content, found_property, is_length, marks_if}
-use Rattle.heap_objects.specs.Properties.{property_at}
+use Rattle.heap_elements.specs.Properties.{property_at}
 use Rattle.object_heap.specs.Heap.{kind_in, own_found_in, own_marks_in}
 use Rattle.js_evaluation.specs.State.{define, throw_type_error}
 use Rattle.js_evaluation.specs.Entries as entry

@@ -21,7 +21,7 @@ use Rattle.heap_values.specs.declared.built_in.BuiltIn.TheVariants as built_in
 use Rattle.heap_values.specs.declared.value.Value.{Value}
 use Rattle.heap_values.specs.declared.value.Value.TheVariants as value
 use Rattle.heap_values.specs.Views.{ObjectView}
-use Rattle.heap_objects.specs.Properties.{property_at}
+use Rattle.heap_elements.specs.Properties.{property_at}
 use Rattle.object_heap.specs.Heap.{object_at, kind_in, found_of}
 use Rattle.js_convert.specs.Operators.{is_object}
 use Rattle.run_trees.specs.Runs.{pure, reading, ◌>>=◌, ◌>>◌, returning}

@@ -7,8 +7,8 @@ use Rattle.std.proofs.lemmas.List.{append-nil, length-map, map-append}
 use Rattle.heap_values.specs.declared.ids.ObjectId.{ObjectId}
 use Rattle.heap_values.specs.declared.property.Property.{Property}
 use Rattle.heap_values.specs.Views.{ObjectView}
-use Rattle.heap_objects.specs.Properties.{property_at}
-use Rattle.heap_objects.specs.Places.{NamesDiffer}
+use Rattle.heap_elements.specs.Properties.{property_at}
+use Rattle.heap_elements.specs.Places.{NamesDiffer}
 use Rattle.heap_objects.specs.TableRows.{Row, entries_of}
 use Rattle.object_heap.specs.Fresh.{TableObject, object_of, native_object, natives_from, names_differ, is_below, are_ordered, roots, prototypes, constructors, filled_objects, built_in_objects}
 use Rattle.object_heap.specs.declared.table.TheConstants.{FIRST_NATIVE, NATIVES, OBJECTS_MORE}

@@ -7,7 +7,7 @@ use Rattle.heap_values.specs.declared.ids.Kind.TheVariants as kind
 use Rattle.heap_values.specs.declared.ids.ObjectId.{ObjectId}
 use Rattle.heap_values.specs.Views.{ObjectView, HeapView}
 use Rattle.heap_objects.specs.Object.{empty_object, built_in_object}
-use Rattle.heap_objects.specs.Properties.{property_at}
+use Rattle.heap_elements.specs.Properties.{property_at}
 use Rattle.heap_objects.specs.Scope.{fresh_scope}
 use Rattle.heap_objects.specs.TableRows.{Row, row_read, entries_of}
 use Rattle.heap_objects.specs.declared.table_row.Entry.{Entry}

@@ -16,7 +16,7 @@ use Rattle.heap_values.specs.Views.{ObjectView, ScopeView, HeapView}
 use Rattle.heap_objects.specs.Keys.{with_names}
 use Rattle.heap_objects.specs.declared.marks.Marks.{Marks}
 use Rattle.heap_objects.specs.Object.{empty_object, own_found, own_marks, is_length, grown_length_of, put_cost_of, object_with, can_delete, object_without, object_cut}
-use Rattle.heap_objects.specs.Properties.{property_at, listed_names_of}
+use Rattle.heap_elements.specs.Properties.{property_at, listed_names_of}
 use Rattle.heap_objects.specs.Scope.{fresh_scope, slot_in, scope_with}
 
 -- the object of this number, where there is one
@@ -119,11 +119,15 @@ length_stored h at o (Number (pos n)) = if nat_lt 100000 n then Err answer.Array
     else Ok (heap_with h at (object_cut o n) (n - o.length))
 length_stored h at o _ = Err answer.BadLength
 
+-- so many cells after others, for an object of this length
+abbrev pub limited_cost : ℕ → ℕ → ℕ → Result ℕ HeapAnswer
+limited_cost cells size cost = if nat_lt 100000 size then Err answer.ArrayTooLong
+    else if nat_lt 2000000 (cells + cost) then Err answer.HeapFull
+    else Ok cost
+
 -- the cells that a property takes under a name that is not the length of an array, after so many cells
 abbrev pub property_cost : ℕ → ObjectView → List ℕ → Result ℕ HeapAnswer
-property_cost cells o name = if nat_lt 100000 (grown_length_of o name) then Err answer.ArrayTooLong
-    else if nat_lt 2000000 (cells + put_cost_of o name) then Err answer.HeapFull
-    else Ok (put_cost_of o name)
+property_cost cells o name = limited_cost cells (grown_length_of o name) (put_cost_of o name)
 
 -- the heap with the object at this cost, where it isn't refused
 abbrev pub stored_at : HeapView → ℕ → ObjectView → Result ℕ HeapAnswer → Result HeapView HeapAnswer

@@ -16,6 +16,7 @@ ghost use Rattle.std.specs.Prelude.{
   ◌∷◌,
   [],
 };
+ghost use Rattle.std.specs.Fmt.{decimal};
 ghost use Rattle.heap_objects.specs.Object.{property_after, value_property};
 ghost use Rattle.object_heap.specs.Fresh.{fresh_heap, built_in_number};
 ghost use Rattle.object_heap.specs.Heap.{
@@ -34,6 +35,7 @@ ghost use Rattle.object_heap.specs.Heap.{
   scope_made_of,
   stored,
   length_stored,
+  limited_cost,
   property_cost,
   deleted_of,
   own_keys_in,
@@ -45,6 +47,7 @@ ghost use Rattle.object_heap.specs.Heap.{
 };
 
 use crate::fresh::{make_built_ins, object_of};
+use heap_elements::index_name;
 use heap_objects::{Marks, NameSet, Object, Scope};
 use heap_values::{BuiltIn, Content, Found, HeapAnswer, Kind, ObjectId, Property, ScopeId, Value};
 use std::alloc::Global;
@@ -189,6 +192,27 @@ impl Heap {
         Ok(Found::Absent)
     }
 
+    /// What `get` finds under an index as a name. No name is made for an element of the object itself.
+    pub fn get_index(&self, alloc: Global, object: ObjectId, index: u32) -> Result<Found, Memory>
+        ensures { IfOk result (λ found. found ≡ found_of self.now object (decimal index)) }
+    {
+        let element = self.get_element(alloc, object, index)?;
+        if !is_nothing(&element) {
+            return Ok(element);
+        }
+        self.get(alloc, object, &index_name(alloc, index)?)
+    }
+
+    // What the object itself has under an index, where it is one of its elements.
+    fn get_element(&self, alloc: Global, object: ObjectId, index: u32) -> Result<Found, Memory>
+        ensures { IfOk result (λ found. (found ≡ Found.Absent) ⊎ (found ≡ own_found_in (object_at self.now object) (decimal index))) }
+    {
+        match self.objects.get(object.0 as usize) {
+            None => Ok(Found::Absent),
+            Some(object) => object.find_element(alloc, index),
+        }
+    }
+
     /// What the object itself has under a name (ECMA-262 5.1, section 8.12.1).
     pub fn get_own(&self, alloc: Global, object: ObjectId, name: &Text) -> Result<Found, Memory>
         ensures { IfOk result (λ found. found ≡ own_found_in (object_at self.now object) name.now) }
@@ -274,6 +298,33 @@ impl Heap {
         let cost = write_cost(self.cells, &self.objects[at], name)?;
         let holder = &mut self.objects[at];
         holder.put(alloc, name, value)?;
+        self.cells += cost;
+        Ok(())
+    }
+
+    /// Does what `put` does under an index as a name. No name is made for an element, nor for the next one.
+    pub fn put_index(
+        &mut self,
+        alloc: Global,
+        object: ObjectId,
+        index: u32,
+        value: Value,
+    ) -> Result<(), HeapAnswer>
+        ensures ok { OnOk result (stored self.old object (decimal index) value (property_after value) ≡ Ok self.new) }
+        ensures err { IfErr result (λ e. (e ≡ HeapAnswer.Memory) ⊎ (stored self.old object (decimal index) value (property_after value) ≡ Err e)) }
+        ensures unchanged { OnErr result (self.new ≡ self.old) }
+    {
+        let at = object.0 as usize;
+        if at >= self.objects.len() {
+            return Ok(());
+        }
+        let Some(cost) = self.objects[at].element_cost(index) else {
+            return self.put(alloc, object, &index_name(alloc, index)?, value);
+        };
+        let length = self.objects[at].grown_length_at(index);
+        let cost = limited_cost(self.cells, length, cost)?;
+        let holder = &mut self.objects[at];
+        holder.put_index(alloc, index, value)?;
         self.cells += cost;
         Ok(())
     }
@@ -432,11 +483,19 @@ fn write_cost(cells: u64, object: &Object, name: &Text) -> Result<u64, HeapAnswe
     ensures cost { result ≡ property_cost cells object.now name.now }
     ensures within { IfOk result (λ cost. cells + cost ≤ 2000000) }
 {
-    if object.grown_length(name) > LONGEST_ARRAY {
+    limited_cost(cells, object.grown_length(name), object.put_cost(name))
+}
+
+// So many cells more, where neither the array of this length would be too long nor the heap full.
+fn limited_cost(cells: u64, length: u32, cost: u64) -> Result<u64, HeapAnswer>
+    requires { cells ≤ 2000000 }
+    ensures cost { result ≡ limited_cost cells length cost }
+    ensures within { IfOk result (λ cost. cells + cost ≤ 2000000) }
+{
+    if length > LONGEST_ARRAY {
         return Err(HeapAnswer::ArrayTooLong);
     }
-    let cost = object.put_cost(name);
-    if cells + cost > MOST_CELLS {
+    if cost > MOST_CELLS - cells {
         return Err(HeapAnswer::HeapFull);
     }
     Ok(cost)

@@ -1,8 +1,8 @@
-// The built-in objects of a fresh heap, as data (ECMA-262 5.1, section 15). A native that isn't built yet, and a
-// property that this profile leaves out, is the mark left out with the text by which a fault names it. None is listed.
+// The built-in objects of a fresh heap, as data (ECMA-262 5.1, section 15). A property that this profile leaves out is
+// the mark left out with the text by which a fault names it. None is listed.
 //
-// To build a native, write `native!(NUMBER), ""` in place of `LeftOut` and its text in its row, and raise `NATIVES`
-// where its number is the greatest. For an object that has a name below write `Object(NAME), ""`.
+// A native's row has `native!(NUMBER), ""`, and `NATIVES` is one more than the greatest of the numbers. An object that
+// has a name below is `Object(NAME), ""`.
 use Entry::{LeftOut, Object, Text, Undefined};
 use heap_objects::{Entry, TableRow};
 use heap_values::{Kind, ObjectId};

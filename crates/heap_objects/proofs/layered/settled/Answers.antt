@@ -1,5 +1,5 @@
 use Rattle.std.proofs.Common.{◌∙◌, [], ap}
-use Rattle.heap_objects.specs.Properties.{with_properties}
+use Rattle.heap_elements.specs.Properties.{with_properties}
 use Rattle.heap_objects.specs.Layers.{left_of}
 use Rattle.heap_objects.proofs.LayerLemmas.{with_properties-differ, NamesDiffer-first}
 use Rattle.heap_objects.proofs.layered.settled.Goals as goal

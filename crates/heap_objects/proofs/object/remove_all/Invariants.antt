@@ -1,5 +1,5 @@
 use Rattle.std.proofs.Common.{◌≡◌, take, fold}
-use Rattle.heap_objects.specs.Properties.{without_property}
+use Rattle.heap_elements.specs.Properties.{without_property}
 use Rattle.heap_objects.proofs.object.remove_all.Given as goal
 
 abbrev pub invariant-loop-name : goal.invariant-loop-name

@@ -1,5 +1,5 @@
 use Rattle.std.proofs.Common.{◌≡◌, drop}
-use Rattle.heap_objects.specs.Properties.{with_properties}
+use Rattle.heap_elements.specs.Properties.{with_properties}
 use Rattle.heap_objects.proofs.properties.copy_row.Given as goal
 
 abbrev pub invariant-loop-entry : goal.invariant-loop-entry

@@ -1,8 +1,8 @@
 use Rattle.std.proofs.Common.{◌≡◌, ◌++◌, ◌∷◌, [], ◌∙◌, Some, slice_get, take, sym, ap}
 use Rattle.std.proofs.lemmas.List.{take_more}
 use Rattle.std.proofs.lemmas.Option.{slice_get-get_or}
-use Rattle.heap_objects.specs.Properties.{with_property}
-use Rattle.heap_objects.proofs.RowLemmas.{with_property-next}
+use Rattle.heap_elements.specs.Properties.{with_property}
+use Rattle.heap_elements.proofs.RowLemmas.{with_property-next}
 use Rattle.heap_objects.proofs.properties.ordered_of.Goals as goal
 
 pub loop-entry-preserved : goal.loop-entry-preserved

@@ -1,5 +1,5 @@
 use Rattle.std.proofs.Common.{◌≡◌, drop}
-use Rattle.heap_objects.specs.Properties.{with_properties}
+use Rattle.heap_elements.specs.Properties.{with_properties}
 use Rattle.heap_objects.specs.Slots.{standing}
 use Rattle.heap_objects.proofs.slots.copy_slots.Given as goal
 

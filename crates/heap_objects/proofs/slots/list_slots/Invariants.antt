@@ -1,5 +1,5 @@
 use Rattle.std.proofs.Common.{◌≡◌, ◌++◌, [], drop}
-use Rattle.heap_objects.specs.Properties.{indexed_into, other_names}
+use Rattle.heap_elements.specs.Properties.{indexed_into, other_names}
 use Rattle.heap_objects.specs.Slots.{standing}
 use Rattle.heap_objects.proofs.slots.list_slots.Given as goal
 

@@ -1,6 +1,6 @@
 use Rattle.std.proofs.Common.{◌≡◌, if◌then◌else◌, length, pos, Some, IfOk, sym, ap, subst, ◌∙◌}
 use Rattle.heap_values.specs.declared.value.Value.TheVariants as value
-use Rattle.heap_objects.specs.Names.{array_index}
+use Rattle.heap_elements.specs.Names.{array_index}
 use Rattle.js_evaluation.specs.Objects.{unit_by}
 use Rattle.heap_steps.proofs.properties.own_of_text.Goals as goal
 

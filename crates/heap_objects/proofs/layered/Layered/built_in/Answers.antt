@@ -1,6 +1,6 @@
 use Rattle.std.proofs.Common.{◌∙◌, ◌≡◌, [], sym, ap, subst, map}
-use Rattle.heap_objects.specs.Properties.{with_properties}
-use Rattle.heap_objects.specs.Places.{NamesDiffer}
+use Rattle.heap_elements.specs.Properties.{with_properties}
+use Rattle.heap_elements.specs.Places.{NamesDiffer}
 use Rattle.heap_objects.specs.TableRows.{left_in, entries_of, row_read}
 use Rattle.heap_objects.proofs.LayerLemmas.{with_properties-differ}
 use Rattle.heap_objects.proofs.layered.Layered.built_in.Goals as goal

@@ -1,5 +1,5 @@
 use Rattle.std.proofs.Common.{◌∙◌, ◌≡◌, IfOk, List, ℕ, sym, ap, subst}
-use Rattle.heap_objects.specs.Properties.{listed_names_of}
+use Rattle.heap_elements.specs.Properties.{listed_names_of}
 use Rattle.heap_objects.proofs.TableLemmas.{listed_names_of-layers}
 use Rattle.heap_objects.proofs.layered.Layered.listed_names.Goals as goal
 

@@ -1,8 +1,8 @@
 use Rattle.std.proofs.Common.{◌∙◌, ◌≡◌, ◌++◌, sym, ap, subst}
-use Rattle.heap_objects.specs.Properties.{without_property}
-use Rattle.heap_objects.specs.Places.{NamesDiffer}
+use Rattle.heap_elements.specs.Properties.{without_property}
+use Rattle.heap_elements.specs.Places.{NamesDiffer}
 use Rattle.heap_objects.specs.Layers.{left_of, layers}
-use Rattle.heap_objects.proofs.RowLemmas.{NamesDiffer-without}
+use Rattle.heap_elements.proofs.RowLemmas.{NamesDiffer-without}
 use Rattle.heap_objects.proofs.LayerLemmas.{without_property-both, NamesDiffer-first}
 use Rattle.heap_objects.proofs.layered.Layered.remove.Goals as goal
 

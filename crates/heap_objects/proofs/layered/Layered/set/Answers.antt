@@ -1,11 +1,11 @@
 use Rattle.std.proofs.Common.{◌∙◌, ◌++◌, List, ℕ, sym, ap, subst, ⊎_elim}
 use Rattle.std.proofs.lemmas.Result.{on_ok_weaker}
 use Rattle.heap_values.specs.declared.property.Property.{Property}
-use Rattle.heap_objects.specs.Properties.{property_at, with_property}
-use Rattle.heap_objects.specs.Places.{NamesDiffer}
+use Rattle.heap_elements.specs.Properties.{property_at, with_property}
+use Rattle.heap_elements.specs.Places.{NamesDiffer}
 use Rattle.heap_objects.specs.Layers.{left_of, layers}
 use Rattle.heap_objects.proofs.PlaceLemmas.{nothing}
-use Rattle.heap_objects.proofs.RowLemmas.{NamesDiffer-with}
+use Rattle.heap_elements.proofs.RowLemmas.{NamesDiffer-with}
 use Rattle.heap_objects.proofs.LayerLemmas.{with_property-second, changed_or_kept}
 use Rattle.heap_objects.proofs.layered.Layered.set.Goals as goal
 

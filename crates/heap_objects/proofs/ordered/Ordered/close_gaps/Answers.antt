@@ -1,5 +1,5 @@
 use Rattle.std.proofs.Common.{◌∙◌, is_some, ap, sym, subst, arith}
-use Rattle.heap_objects.specs.Places.{NamesDiffer}
+use Rattle.heap_elements.specs.Places.{NamesDiffer}
 use Rattle.heap_objects.specs.Slots.{standing, place_in}
 use Rattle.heap_objects.proofs.PlaceLemmas.{standing-closed, place_in-closed}
 use Rattle.heap_objects.proofs.ordered.Ordered.close_gaps.Goals as goal

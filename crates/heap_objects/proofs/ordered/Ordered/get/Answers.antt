@@ -1,5 +1,5 @@
 use Rattle.std.proofs.Common.{◌∙◌, slice_get, sym, ap}
-use Rattle.heap_objects.specs.Properties.{property_at}
+use Rattle.heap_elements.specs.Properties.{property_at}
 use Rattle.heap_objects.specs.Slots.{property_in}
 use Rattle.heap_objects.proofs.PlaceLemmas.{no_property, found_at}
 use Rattle.heap_objects.proofs.ordered.Ordered.get.Goals as goal

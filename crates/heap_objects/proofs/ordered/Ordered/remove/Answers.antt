@@ -2,10 +2,10 @@ use Rattle.std.proofs.Common.{◌∙◌, sym, ap, subst}
 use Rattle.std.specs.Ordering.{nat_cmp}
 use Rattle.std.specs.Cmp.Lexicographic.{slice_cmp}
 use Rattle.std.specs.BTreeMap.{get}
-use Rattle.heap_objects.specs.Properties.{without_property}
+use Rattle.heap_elements.specs.Properties.{without_property}
 use Rattle.heap_objects.specs.Slots.{standing, IsIndexOf}
 use Rattle.heap_objects.proofs.PlaceLemmas.{no_property, taken_away, index-taken_away}
-use Rattle.heap_objects.proofs.RowLemmas.{without_property-missing}
+use Rattle.heap_elements.proofs.RowLemmas.{without_property-missing}
 use Rattle.heap_objects.proofs.ordered.Ordered.remove.Goals as goal
 
 pub invariant_of-self : goal.invariant_of-self

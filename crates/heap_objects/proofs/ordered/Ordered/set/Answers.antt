@@ -2,7 +2,7 @@ use Rattle.std.proofs.Common.{◌∙◌, ◌<◌, ◌++◌, ◌∷◌, [], Some,
 use Rattle.std.specs.Ordering.{nat_cmp}
 use Rattle.std.specs.Cmp.Lexicographic.{slice_cmp}
 use Rattle.std.specs.BTreeMap.{get}
-use Rattle.heap_objects.specs.Properties.{with_property}
+use Rattle.heap_elements.specs.Properties.{with_property}
 use Rattle.heap_objects.specs.Slots.{standing, IsIndexOf, Updated}
 use Rattle.heap_objects.proofs.PlaceLemmas.{written_at, added, index-written, index-added, none_unless}
 use Rattle.heap_objects.proofs.ordered.Ordered.set.Goals as goal

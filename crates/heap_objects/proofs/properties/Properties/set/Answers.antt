@@ -1,7 +1,7 @@
 use Rattle.std.proofs.Common.{sym, subst}
-use Rattle.heap_objects.specs.Places.{NamesDiffer}
+use Rattle.heap_elements.specs.Places.{NamesDiffer}
 use Rattle.heap_objects.specs.Forms.{RowDiffers}
-use Rattle.heap_objects.proofs.RowLemmas.{NamesDiffer-with}
+use Rattle.heap_elements.proofs.RowLemmas.{NamesDiffer-with}
 use Rattle.heap_objects.proofs.properties.Properties.set.Goals as goal
 
 pub invariant_of-self-then-len-lt-FEW : goal.invariant_of-self-then-len-lt-FEW

@@ -1,7 +1,7 @@
 use Rattle.std.proofs.Common.{◌∙◌, ◌+◌, ◌≤◌, sym, ap, drop, length, arith}
 use Rattle.std.specs.Option.{option_copied}
 use Rattle.std.proofs.lemmas.List.{drop_all}
-use Rattle.heap_objects.specs.Properties.{with_properties}
+use Rattle.heap_elements.specs.Properties.{with_properties}
 use Rattle.heap_objects.specs.Slots.{standing}
 use Rattle.heap_objects.specs.TableRows.{slots_in, slot_of}
 use Rattle.heap_objects.proofs.TableLemmas.{added_next, length-slots_of}

@@ -1,5 +1,5 @@
 use Rattle.std.proofs.Common.{◌≡◌, drop}
-use Rattle.heap_objects.specs.Properties.{with_properties}
+use Rattle.heap_elements.specs.Properties.{with_properties}
 use Rattle.heap_objects.specs.Slots.{standing}
 use Rattle.heap_objects.specs.TableRows.{left_in, slots_in}
 use Rattle.heap_objects.proofs.table_rows.TableRows.copy_into.Given as goal

@@ -2,7 +2,7 @@ use Rattle.std.proofs.Common.{◌∙◌, ◌<◌, sym, ap, map, set, None, lengt
 use Rattle.heap_objects.specs.Slots.{standing}
 use Rattle.heap_objects.specs.TableRows.{TableView, slots_in, left_in, row_read}
 use Rattle.heap_objects.proofs.PlaceLemmas.{no_property, taken_away, none_unless}
-use Rattle.heap_objects.proofs.RowLemmas.{without_property-missing}
+use Rattle.heap_elements.proofs.RowLemmas.{without_property-missing}
 use Rattle.heap_objects.proofs.TableLemmas.{slots_of-marked}
 use Rattle.heap_objects.proofs.table_rows.TableRows.remove.Goals as goal
 

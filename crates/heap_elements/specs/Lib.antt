@@ -1,0 +1,4 @@
+pub mod Names
+pub mod Properties
+pub mod Places
+pub mod Elements

@@ -1,6 +1,0 @@
-use Rattle.std.proofs.Common.{◌≡◌, ◌++◌, [], drop}
-use Rattle.heap_objects.specs.Properties.{indexed_into, other_names}
-use Rattle.heap_objects.proofs.listing.list_row.Given as goal
-
-abbrev pub invariant-loop-entry : goal.invariant-loop-entry
-invariant-loop-entry l = (indexed_into l.indexed.entries (drop l.entry-index l.row) ≡ indexed_into [] l.row) × (l.others ++ other_names (drop l.entry-index l.row) ≡ other_names l.row)
