@@ -211,6 +211,19 @@ impl Object {
         ensures unchanged { OnErr result (self.new ≡ self.old) }
     {
         let property = written(self.properties.marks_at(alloc, index)?, value);
+        self.define_index(alloc, index, property)
+    }
+
+    /// Gives an index this property. No name is made for an element.
+    pub fn define_index(
+        &mut self,
+        alloc: Global,
+        index: u32,
+        property: Property,
+    ) -> Result<(), Memory>
+        ensures ok { OnOk result (self.new ≡ object_with self.old (decimal index) property) }
+        ensures unchanged { OnErr result (self.new ≡ self.old) }
+    {
         let grown = self.grown_length_at(index);
         self.properties.set_index(alloc, index, property)?;
         self.length = grown;

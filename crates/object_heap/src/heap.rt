@@ -15,6 +15,7 @@ ghost use Rattle.std.specs.Prelude.{
   ◌++◌,
   ◌∷◌,
   [],
+  true,
 };
 ghost use Rattle.std.specs.Fmt.{decimal};
 ghost use Rattle.heap_objects.specs.Object.{property_after, value_property};
@@ -359,6 +360,39 @@ impl Heap {
         };
         let holder = &mut self.objects[at];
         holder.define(alloc, name, property)?;
+        self.cells += cost;
+        Ok(())
+    }
+
+    /// Does what `define` does under an index as a name, listed and deletable. No name is made for an element, nor for
+    /// the next one.
+    pub fn define_index(
+        &mut self,
+        alloc: Global,
+        object: ObjectId,
+        index: u32,
+        value: Value,
+    ) -> Result<(), HeapAnswer>
+        ensures ok { OnOk result (stored self.old object (decimal index) value (λ _. value_property value true true) ≡ Ok self.new) }
+        ensures err { IfErr result (λ e. (e ≡ HeapAnswer.Memory) ⊎ (stored self.old object (decimal index) value (λ _. value_property value true true) ≡ Err e)) }
+        ensures unchanged { OnErr result (self.new ≡ self.old) }
+    {
+        let at = object.0 as usize;
+        if at >= self.objects.len() {
+            return Ok(());
+        }
+        let Some(cost) = self.objects[at].element_cost(index) else {
+            return self.define(alloc, object, &index_name(alloc, index)?, value, true, true);
+        };
+        let length = self.objects[at].grown_length_at(index);
+        let cost = limited_cost(self.cells, length, cost)?;
+        let property = Property {
+            content: Content::Value(value),
+            listed: true,
+            deletable: true,
+        };
+        let holder = &mut self.objects[at];
+        holder.define_index(alloc, index, property)?;
         self.cells += cost;
         Ok(())
     }
