@@ -141,12 +141,7 @@ pub fn set_length(
 }
 
 /// Deletes the last element of an array, which stands at this place, and sets the length to it.
-pub fn cut(
-    alloc: Global,
-    heap: &mut Heap,
-    array: ObjectId,
-    last: u64,
-) -> Result<(), HeapAnswer>
+pub fn cut(alloc: Global, heap: &mut Heap, array: ObjectId, last: u64) -> Result<(), HeapAnswer>
     ensures ok { OnOk result (cut_at heap.old array (decimal last) last ≡ Ok heap.new) }
     ensures err { IfErr result (λ e. (e ≡ HeapAnswer.Memory) ⊎ (cut_at heap.old array (decimal last) last ≡ Err e)) }
 {

@@ -20,5 +20,7 @@ pub use halt::{Halt, refused};
 pub use making::{define, define_as, define_at, make, make_by, make_scope, spend, test_text};
 pub use names::{delete_name, read_name, read_or_undefined, write_name};
 pub use primitives::{bits_or_fault, counted, number_or_fault, operate, stepped};
-pub use properties::{count_of, found_value, get, get_by, has_property, own_of, stands_among, test_base};
+pub use properties::{
+    count_of, found_value, get, get_by, has_property, own_of, stands_among, test_base,
+};
 pub use writing::{delete_property, put, put_by, put_on};

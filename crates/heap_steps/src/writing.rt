@@ -84,12 +84,7 @@ pub fn put_on(
 }
 
 /// What a write comes to that the heap refuses.
-fn not_stored(
-    alloc: Global,
-    heap: &mut Heap,
-    answer: HeapAnswer,
-    place: Place,
-) -> Result<(), Halt>
+fn not_stored(alloc: Global, heap: &mut Heap, answer: HeapAnswer, place: Place) -> Result<(), Halt>
     ensures { (stored : Result HeapView HeapAnswer) → ((answer ≡ HeapAnswer.Memory) ⊎ (stored ≡ Err answer)) → Works (spec.written place stored) heap.old result heap.new }
 {
     match answer {
