@@ -106,10 +106,10 @@ pub fn get_by(
 }
 
 /// The object that a value is.
-pub(crate) fn object_of(value: &Value) -> Option<ObjectId>
-    ensures { IfSome result (λ object. value.now ≡ value.Object object) }
+pub(crate) fn object_of(base: &Value) -> Option<ObjectId>
+    ensures { IfSome result (λ object. base.now ≡ value.Object object) }
 {
-    match value {
+    match base {
         Value::Object(object) => Some(*object),
         _ => None,
     }
