@@ -22,7 +22,7 @@ use Rattle.js_convert.specs.Numeric.{truth_of}
 use Rattle.js_convert.specs.Texts.{text_of}
 use Rattle.js_evaluation.specs.State.{Does, built_in_object, global_object}
 use Rattle.js_evaluation.specs.Objects.{Context, arity_of}
-use Rattle.js_evaluation.specs.Conversions.{Call, assigned_by, type_text}
+use Rattle.js_evaluation.specs.Conversions.{Call, text_methods, assigned_by, type_text}
 use Rattle.js_evaluation.specs.NativeTable.{constructs, native_of}
 use Rattle.js_evaluation.specs.Expressions as def
 use Rattle.js_evaluation.specs.Expressions.{Reference, to_name, to_property, suffix_place, referred}
