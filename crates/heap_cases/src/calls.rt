@@ -6,8 +6,8 @@ use object_heap::{Found, Heap, HeapAnswer, Kind, Marks, ObjectId, ScopeId, Value
 use std::alloc::Global;
 use utf16_text::{Text, TextList};
 
-/// A call: its name, and behind it an object, a scope or a count by its number, a property or a slot by its name or its
-/// number, and a value.
+/// A call: its name, and behind it an object, a scope or a count by its number, a property, an index or a slot by its
+/// name or its number, and a value.
 #[derive(Drop)]
 struct Call {
     name: String,
@@ -140,7 +140,7 @@ impl Bench {
             }
             "cells" => Ok(Answer::Count(self.heap.cells())),
             "spend" => self.spend(call),
-            "put" | "define" | "write" => self.write(alloc, call),
+            "put" | "put-index" | "define" | "write" => self.write(alloc, call),
             _ => self.ask(alloc, call),
         }
     }
@@ -184,6 +184,7 @@ impl Bench {
         let value = call.value.copy(alloc)?;
         match call.name.as_str() {
             "put" => self.heap.put(alloc, object, &call.property, value)?,
+            "put-index" => self.heap.put_index(alloc, object, call.slot, value)?,
             "write" => self.heap.write_slot(scope, call.slot, value),
             _ => self
                 .heap
@@ -198,6 +199,7 @@ impl Bench {
         Ok(match call.name.as_str() {
             "delete" => Answer::Truth(self.heap.delete(object, name)),
             "get" => Answer::Found(self.heap.get(alloc, object, name)?),
+            "get-index" => Answer::Found(self.heap.get_index(alloc, object, call.slot)?),
             "own" => Answer::Found(self.heap.get_own(alloc, object, name)?),
             "marks" => self.marks(object, name),
             "keys" => Answer::Names(self.heap.keys(alloc, object)?),
