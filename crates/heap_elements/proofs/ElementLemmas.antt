@@ -1,248 +1,402 @@
--- What stands in places, and how they change.
-use Rattle.std.proofs.Common.{◌≡◌, ℕ, ◌+◌, ◌-◌, ◌<◌, ◌≤◌, zero, suc, List, [], ◌∷◌, ◌++◌, Bool, true, false, cond, Option, Some, None, is_some, length, set, take, drop, slice_get, refl, sym, ap, ◌∙◌, append_assoc, arith, ⊎_elim}
-use Rattle.std.specs.Prelude.{nat_lt, nat_eq, ◌&&◌, ◌||◌}
+-- What stands in slots, and how they change.
+use Rattle.std.proofs.Common.{◌≡◌, ℕ, ◌-◌, ◌<◌, ◌≤◌, zero, suc, List, [], ◌∷◌, ◌++◌, Bool, true, false, cond, Option, Some, None, is_some, length, set, take, drop, get_or, slice_get, subst, Result, Ok, Err, IfOk, IfErr, IfSome, IfNone, refl, sym, ap, ◌∙◌, append_assoc, arith, ⊎_elim}
+use Rattle.std.specs.Prelude.{nat_lt, nat_eq, ◌&&◌, ◌||◌, filter}
 use Rattle.std.specs.Fmt.{decimal}
-use Rattle.std.specs.Ordering.{nat_cmp, match_ordering}
+use Rattle.std.specs.Ordering.{nat_cmp, match_ordering, ordering_index}
+use Rattle.std.specs.List.Sorted.{IsSearchInRange, IsBinarySearchResult, IsNonDecreasingBy}
+use Rattle.std.proofs.lemmas.Cmp.{ranked}
+use Rattle.std.proofs.lemmas.List.Sorted.{IsNonDecreasingBy-from_default}
+use Rattle.std.proofs.lemmas.Option.{slice_get-get_or}
 use Rattle.std.specs.Cmp.{nat_cmp_is}
 use Rattle.std.specs.declared.cmp.Ordering.TheVariants.{Greater}
 use Rattle.std.proofs.lemmas.List.{append-nil, drop_all}
 use Rattle.std.specs.BTreeMap.{insert_entry}
 use Rattle.std.specs.Map.{values_of}
 use Rattle.std.specs.Str.{bytes_eq}
-use Rattle.std.proofs.lemmas.Bool.{cases_Bool}
+use Rattle.std.proofs.lemmas.Bool.{cases_Bool, eqb-true}
 use Rattle.std.proofs.lemmas.Bool.Decides.{nat_tests}
 use Rattle.heap_values.specs.declared.property.Property.{Property}
 use Rattle.heap_elements.specs.Names.{array_index}
 use Rattle.heap_elements.specs.Properties.{property_at, with_property, without_property, index_put, indexed_into, name_unless_index, other_names, listed_names_of}
 use Rattle.heap_elements.specs.Places.{NamesDiffer}
-use Rattle.heap_elements.specs.Elements.{numbered, elements_of, element_at, is_next, takes, is_gap, listed_numerals}
+use Rattle.heap_elements.specs.Elements.{Slots, AreRising, elements_of, has_index, is_below, is_next, takes, HasIndex, is_filled, is_gap, listed_numerals}
 use Rattle.heap_elements.proofs.RowLemmas.{same_name, with_property-missing, without_property-missing}
-use Rattle.heap_elements.proofs.IndexLemmas.{array_index-decimal, numerals_differ, same_numeral}
+use Rattle.heap_elements.proofs.IndexLemmas.{array_index-decimal, decimal-array_index, numerals_differ, same_numeral}
 
-abbrev pub Places : Type 0
-Places = List (Option Property)
+-- ---- indexes that rise
+
+AreRising-from : (slots : Slots) (low from : ℕ) → low ≤ from → AreRising from slots → AreRising low slots
+AreRising-from [] low from lower rising = tt
+AreRising-from (s ∷ slots) low from lower rising = (omega (arith, rising.0), rising.1, rising.2)
+
+same_index : (s t : ℕ × Option Property) → Some s ≡ Some t → s.0 ≡ t.0
+same_index s t is = let same : s ≡ t = cc in ap (λ u. u.0) same
+
+same_content : (s t : ℕ × Option Property) → Some s ≡ Some t → s.1 ≡ t.1
+same_content s t is = let same : s ≡ t = cc in ap (λ u. u.1) same
+
+-- a slot's index is among them
+index_from : (slots : Slots) (from at i : ℕ) (o : Option Property) → AreRising from slots → slice_get slots at ≡ Some (i, o) → (from ≤ i) × (i < 4294967295)
+index_from [] from at i o rising is = absurd (cc)
+index_from (s ∷ slots) from zero i o rising is = let this = same_index s (i, o) is in (omega (arith, rising.0), omega (arith, rising.1))
+index_from (s ∷ slots) from (suc at) i o rising is =
+    let rest = index_from slots (suc s.0) at i o rising.2 is in
+    (omega (arith, rising.0, rest.0), rest.1)
+
+-- each index is below this one
+abbrev pub AreBelow : Slots → ℕ → Type 0
+AreBelow [] n = Unit {0}
+AreBelow (s ∷ slots) n = (s.0 < n) × AreBelow slots n
+
+last_is_highest : (slots : Slots) (from n k : ℕ) → AreRising from slots → length slots ≡ suc k → is_below (slice_get slots k) n ≡ true → AreBelow slots n
+last_is_highest [] from n k rising last below = tt
+last_is_highest (s ∷ []) from n zero rising last below = (grind (arith, nat_tests), tt)
+last_is_highest (s ∷ []) from n (suc k) rising last below = absurd (omega arith)
+last_is_highest (s ∷ t ∷ slots) from n zero rising last below = absurd (omega arith)
+last_is_highest (s ∷ t ∷ slots) from n (suc k) rising last below =
+    let rest = last_is_highest (t ∷ slots) (suc s.0) n k rising.2 (omega arith) below in
+    (omega (arith, rising.2.0, rest.0), rest)
+
+pub below_next : (slots : Slots) (n : ℕ) → AreRising 0 slots → is_next slots n ≡ true → AreBelow slots n × (n < 4294967295)
+below_next [] n rising next = (tt, grind (arith, nat_tests))
+below_next (s ∷ slots) n rising next =
+    let last = length (s ∷ slots) - 1 in
+    let is_last : last ≡ length slots = omega arith in
+    let both = split (is_below (slice_get (s ∷ slots) last) n) (nat_lt n 4294967295) next in
+    (last_is_highest (s ∷ slots) 0 n last rising (omega arith) both.0, grind (arith, nat_tests, both.1))
+  where
+    split : (a b : Bool) → (a && b) ≡ true → (a ≡ true) × (b ≡ true)
+    split true b is = (refl, is)
+    split false b is = absurd (cc)
+
+-- no slot has this index
+abbrev LacksIndex : Slots → ℕ → Type 0
+LacksIndex [] index = Unit {0}
+LacksIndex (s ∷ slots) index = (nat_eq s.0 index ≡ false) × LacksIndex slots index
+
+LacksIndex-below : (slots : Slots) (n : ℕ) → AreBelow slots n → LacksIndex slots n
+LacksIndex-below [] n below = tt
+LacksIndex-below (s ∷ slots) n below = (grind (arith, nat_tests, below.0), LacksIndex-below slots n below.1)
+
+LacksIndex-from : (slots : Slots) (from n : ℕ) → AreRising from slots → n < from → LacksIndex slots n
+LacksIndex-from [] from n rising lower = tt
+LacksIndex-from (s ∷ slots) from n rising lower = (grind (arith, nat_tests, rising.0), LacksIndex-from slots (suc s.0) n rising.2 (omega (arith, rising.0)))
 
 -- ---- what stands under a name
 
--- no place that is filled has a name that differs from the numerals of all
-apart_from_all : (places : Places) (at : ℕ) (name : List ℕ) → ((m : ℕ) → at ≤ m → m < at + length places → bytes_eq name (decimal m) ≡ false)
-    → property_at (numbered at places) name ≡ None
-apart_from_all [] at name apart = refl
-apart_from_all (None ∷ places) at name apart = apart_from_all places (at + 1) name (λ m from to. apart m (omega arith) (omega arith))
-apart_from_all (Some p ∷ places) at name apart =
-    ap (λ b. cond b (Some p) (property_at (numbered (at + 1) places) name)) (apart at (omega arith) (omega arith))
-    ∙ apart_from_all places (at + 1) name (λ m from to. apart m (omega arith) (omega arith))
+-- a name that differs from each index's numeral
+apart_from_all : (slots : Slots) (from : ℕ) (name : List ℕ) → AreRising from slots → ((m : ℕ) → m < 4294967295 → bytes_eq name (decimal m) ≡ false)
+    → property_at (elements_of slots) name ≡ None
+apart_from_all [] from name rising apart = refl
+apart_from_all ((i, None) ∷ slots) from name rising apart = apart_from_all slots (suc i) name rising.2 apart
+apart_from_all ((i, Some p) ∷ slots) from name rising apart =
+    ap (λ b. cond b (Some p) (property_at (elements_of slots) name)) (apart i rising.1)
+    ∙ apart_from_all slots (suc i) name rising.2 apart
 
--- nothing stands under the numeral of a place before them, or behind them
-pub none_before : (places : Places) (at n : ℕ) → n < at → at + length places ≤ 4294967295 → property_at (numbered at places) (decimal n) ≡ None
-none_before places at n before few =
-    apart_from_all places at (decimal n) (λ m from to. numerals_differ n m (omega arith) (omega arith) (λ same. omega arith))
+-- nothing stands under the numeral of an index that no slot has
+none_lacked : (slots : Slots) (from n : ℕ) → AreRising from slots → n < 4294967296 → LacksIndex slots n → property_at (elements_of slots) (decimal n) ≡ None
+none_lacked [] from n rising small lacks = refl
+none_lacked ((i, None) ∷ slots) from n rising small lacks = none_lacked slots (suc i) n rising.2 small lacks.1
+none_lacked ((i, Some p) ∷ slots) from n rising small lacks =
+    ap (λ b. cond b (Some p) (property_at (elements_of slots) (decimal n))) (numerals_differ n i small (omega (arith, rising.1)) (λ same. grind (arith, nat_tests, lacks.0)))
+    ∙ none_lacked slots (suc i) n rising.2 small lacks.1
 
-pub none_behind : (places : Places) (at n : ℕ) → at + length places ≤ n → n < 4294967296 → property_at (numbered at places) (decimal n) ≡ None
-none_behind places at n behind few =
-    apart_from_all places at (decimal n) (λ m from to. numerals_differ n m (omega arith) (omega arith) (λ same. omega arith))
+none_before : (slots : Slots) (from n : ℕ) → AreRising from slots → n < 4294967296 → n < from → property_at (elements_of slots) (decimal n) ≡ None
+none_before slots from n rising small lower = none_lacked slots from n rising small (LacksIndex-from slots from n rising lower)
 
--- nor under a name that is no array index
-pub none_unless_index : (places : Places) (at : ℕ) (name : List ℕ) → at + length places ≤ 4294967295 → array_index name ≡ None → property_at (numbered at places) name ≡ None
-none_unless_index places at name few none =
-    apart_from_all places at name (λ m from to. ⊎_elim
-    (λ same. absurd (let index = sym none ∙ ap array_index (same_name name (decimal m) same) ∙ array_index-decimal m (omega arith) in cc))
-    (λ apart. apart)
-    (cases_Bool (bytes_eq name (decimal m))))
+-- under the numeral of a slot's index stands what is in it
+stands_at : (slots : Slots) (from at i : ℕ) (o : Option Property) → AreRising from slots → slice_get slots at ≡ Some (i, o) → property_at (elements_of slots) (decimal i) ≡ o
+stands_at [] from at i o rising is = absurd (cc)
+stands_at ((j, None) ∷ slots) from zero i o rising is =
+    let this = same_index (j, None) (i, o) is in
+    none_before slots (suc j) i rising.2 (omega (arith, rising.1)) (omega arith) ∙ same_content (j, None) (i, o) is
+stands_at ((j, None) ∷ slots) from (suc at) i o rising is = stands_at slots (suc j) at i o rising.2 is
+stands_at ((j, Some p) ∷ slots) from zero i o rising is =
+    ap (λ b. cond b (Some p) (property_at (elements_of slots) (decimal i)))
+    (ap (λ m. bytes_eq (decimal i) (decimal m)) (same_index (j, Some p) (i, o) is) ∙ same_numeral (decimal i))
+    ∙ same_content (j, Some p) (i, o) is
+stands_at ((j, Some p) ∷ slots) from (suc at) i o rising is =
+    let among = index_from slots (suc j) at i o rising.2 is in
+    ap (λ b. cond b (Some p) (property_at (elements_of slots) (decimal i))) (numerals_differ i j (omega (arith, among.1)) (omega (arith, rising.1)) (λ same. omega (arith, among.0)))
+    ∙ stands_at slots (suc j) at i o rising.2 is
 
--- under the numeral of a place stands what is in it
-pub numbered_at : (places : Places) (at i n : ℕ) → n ≡ at + i → at + length places ≤ 4294967295 → n < 4294967296
-    → property_at (numbered at places) (decimal n) ≡ element_at places i
-numbered_at [] at i n is few small = refl
-numbered_at (None ∷ places) at zero n is few small = none_before places (at + 1) n (omega arith) (omega arith)
-numbered_at (None ∷ places) at (suc i) n is few small = numbered_at places (at + 1) i n (omega arith) (omega arith) small
-numbered_at (Some p ∷ places) at zero n is few small =
-    let this : n ≡ at = omega arith in
-    ap (λ b. cond b (Some p) (property_at (numbered (at + 1) places) (decimal n))) (ap (λ m. bytes_eq (decimal n) (decimal m)) (sym this) ∙ same_numeral (decimal n))
-numbered_at (Some p ∷ places) at (suc i) n is few small =
-    ap (λ b. cond b (Some p) (property_at (numbered (at + 1) places) (decimal n))) (numerals_differ n at small (omega arith) (λ same. omega arith))
-    ∙ numbered_at places (at + 1) i n (omega arith) (omega arith) small
+pub found_there : (slots : Slots) (at n : ℕ) → has_index (slice_get slots at) n ≡ true → HasIndex slots n at
+found_there [] at n has = absurd (cc)
+found_there (s ∷ slots) zero n has = record { content = s.1; is = ap (λ i. Some (i, s.1)) (eqb-true s.0 n has) }
+found_there (s ∷ slots) (suc at) n has = let rest = found_there slots at n has in record { content = rest.content; is = rest.is }
+
+pub within : (slots : Slots) (at n : ℕ) → HasIndex slots n at → at < length slots
+within [] at n has = absurd (let is = has.is in cc)
+within (s ∷ slots) zero n has = omega arith
+within (s ∷ slots) (suc at) n has = omega (arith, within slots at n (record { content = has.content; is = has.is }))
+
+-- ---- a search by halving
+
+abbrev index_in : Slots → ℕ → ℕ
+index_in slots at = (get_or slots at (0, None)).0
+
+from_at : (slots : Slots) (from k : ℕ) → AreRising from slots → k < length slots → from ≤ index_in slots k
+from_at [] from k rising within = absurd (omega arith)
+from_at (s ∷ slots) from zero rising within = rising.0
+from_at (s ∷ slots) from (suc k) rising within = omega (arith, rising.0, from_at slots (suc s.0) k rising.2 (omega arith))
+
+indexes_rise : (slots : Slots) (from i j : ℕ) → AreRising from slots → i ≤ j → j < length slots → index_in slots i ≤ index_in slots j
+indexes_rise [] from i j rising low within = absurd (omega arith)
+indexes_rise (s ∷ slots) from zero zero rising low within = omega arith
+indexes_rise (s ∷ slots) from zero (suc j) rising low within = omega (arith, from_at slots (suc s.0) j rising.2 (omega arith))
+indexes_rise (s ∷ slots) from (suc i) zero rising low within = absurd (omega arith)
+indexes_rise (s ∷ slots) from (suc i) (suc j) rising low within = indexes_rise slots (suc s.0) i j rising.2 (omega arith) (omega arith)
+
+LacksIndex-places : (slots : Slots) (n : ℕ) → ((k : ℕ) → k < length slots → index_in slots k ≡ n → ⊥) → LacksIndex slots n
+LacksIndex-places [] n apart = tt
+LacksIndex-places (s ∷ slots) n apart = (grind (arith, nat_tests, apart 0 (omega arith)), LacksIndex-places slots n (λ k within. apart (suc k) (omega arith)))
 
 -- ---- how they change
 
--- a property that is there is written in its place
-written_at : (places : Places) (at i n : ℕ) (p : Property) → n ≡ at + i → at + length places ≤ 4294967295 → n < 4294967296 → is_some (element_at places i) ≡ true
-    → numbered at (set places i (Some p)) ≡ with_property (numbered at places) (decimal n) p
-written_at [] at i n p is few small there = absurd (cc)
-written_at (None ∷ places) at zero n p is few small there = absurd (cc)
-written_at (None ∷ places) at (suc i) n p is few small there = written_at places (at + 1) i n p (omega arith) (omega arith) small there
-written_at (Some q ∷ places) at zero n p is few small there =
-    let this : n ≡ at = omega arith in
-    sym (ap (λ b. cond b ((decimal at, p) ∷ numbered (at + 1) places) ((decimal at, q) ∷ with_property (numbered (at + 1) places) (decimal n) p))
-    (ap (λ m. bytes_eq (decimal n) (decimal m)) (sym this) ∙ same_numeral (decimal n)))
-written_at (Some q ∷ places) at (suc i) n p is few small there =
-    ap (λ es. (decimal at, q) ∷ es) (written_at places (at + 1) i n p (omega arith) (omega arith) small there)
-    ∙ sym (ap (λ b. cond b ((decimal at, p) ∷ numbered (at + 1) places) ((decimal at, q) ∷ with_property (numbered (at + 1) places) (decimal n) p))
-    (numerals_differ n at small (omega arith) (λ same. omega arith)))
+AreRising-set : (slots : Slots) (from at i : ℕ) (o p : Option Property) → AreRising from slots → slice_get slots at ≡ Some (i, o) → AreRising from (set slots at (i, p))
+AreRising-set [] from at i o p rising is = absurd (cc)
+AreRising-set (s ∷ slots) from zero i o p rising is =
+    let this = same_index s (i, o) is in
+    (omega (arith, rising.0), omega (arith, rising.1), AreRising-from slots (suc i) (suc s.0) (omega arith) rising.2)
+AreRising-set (s ∷ slots) from (suc at) i o p rising is = (rising.0, rising.1, AreRising-set slots (suc s.0) at i o p rising.2 is)
 
-numbered-append : (places : Places) (at n : ℕ) (p : Property) → n ≡ at + length places → numbered at (places ++ Some p ∷ []) ≡ numbered at places ++ (decimal n, p) ∷ []
-numbered-append [] at n p is = let this : at ≡ n = omega arith in ap (λ m. (decimal m, p) ∷ []) this
-numbered-append (None ∷ places) at n p is = numbered-append places (at + 1) n p (omega arith)
-numbered-append (Some q ∷ places) at n p is = ap (λ es. (decimal at, q) ∷ es) (numbered-append places (at + 1) n p (omega arith))
+AreRising-append : (slots : Slots) (from n : ℕ) (o : Option Property) → AreRising from slots → AreBelow slots n → from ≤ n → n < 4294967295 → AreRising from (slots ++ (n, o) ∷ [])
+AreRising-append [] from n o rising below low small = (low, small, tt)
+AreRising-append (s ∷ slots) from n o rising below low small = (rising.0, rising.1, AreRising-append slots (suc s.0) n o rising.2 below.1 (omega (arith, below.0)) small)
 
--- one behind the last is appended
-pub appended : (places : Places) (n : ℕ) (p : Property) → n ≡ length places → n < 4294967295 → elements_of (places ++ Some p ∷ []) ≡ with_property (elements_of places) (decimal n) p
-appended places n p is small =
-    numbered-append places 0 n p (omega arith)
-    ∙ sym (with_property-missing (elements_of places) (decimal n) p (none_behind places 0 n (omega arith) (omega arith)))
+AreRising-take : (slots : Slots) (from k : ℕ) → AreRising from slots → AreRising from (take k slots)
+AreRising-take [] from zero rising = tt
+AreRising-take [] from (suc k) rising = tt
+AreRising-take (s ∷ slots) from zero rising = tt
+AreRising-take (s ∷ slots) from (suc k) rising = (rising.0, rising.1, AreRising-take slots (suc s.0) k rising.2)
 
--- without the property in a place
-taken_away : (places : Places) (at i n : ℕ) → n ≡ at + i → at + length places ≤ 4294967295 → n < 4294967296
-    → numbered at (set places i None) ≡ without_property (numbered at places) (decimal n)
-taken_away [] at i n is few small = refl
-taken_away (None ∷ places) at zero n is few small =
-    sym (without_property-missing (numbered (at + 1) places) (decimal n) (none_before places (at + 1) n (omega arith) (omega arith)))
-taken_away (None ∷ places) at (suc i) n is few small = taken_away places (at + 1) i n (omega arith) (omega arith) small
-taken_away (Some q ∷ places) at zero n is few small =
-    let this : n ≡ at = omega arith in
-    sym (ap (λ b. cond b (numbered (at + 1) places) ((decimal at, q) ∷ without_property (numbered (at + 1) places) (decimal n)))
-    (ap (λ m. bytes_eq (decimal n) (decimal m)) (sym this) ∙ same_numeral (decimal n)))
-taken_away (Some q ∷ places) at (suc i) n is few small =
-    ap (λ es. (decimal at, q) ∷ es) (taken_away places (at + 1) i n (omega arith) (omega arith) small)
-    ∙ sym (ap (λ b. cond b (numbered (at + 1) places) ((decimal at, q) ∷ without_property (numbered (at + 1) places) (decimal n)))
-    (numerals_differ n at small (omega arith) (λ same. omega arith)))
+AreRising-filled : (slots : Slots) (from : ℕ) → AreRising from slots → AreRising from (filter is_filled slots)
+AreRising-filled [] from rising = tt
+AreRising-filled ((i, None) ∷ slots) from rising = AreRising-filled slots from (AreRising-from slots from (suc i) (omega (arith, rising.0)) rising.2)
+AreRising-filled ((i, Some p) ∷ slots) from rising = (rising.0, rising.1, AreRising-filled slots (suc i) rising.2)
 
-gap : (o : Option (Option Property)) → is_gap o ≡ true → o ≡ Some None
-gap None is = absurd (cc)
-gap (Some None) is = refl
-gap (Some (Some p)) is = absurd (cc)
+-- a property that is there is written in its slot
+written_at : (slots : Slots) (from at i : ℕ) (p q : Property) → AreRising from slots → slice_get slots at ≡ Some (i, Some q)
+    → elements_of (set slots at (i, Some p)) ≡ with_property (elements_of slots) (decimal i) p
+written_at [] from at i p q rising is = absurd (cc)
+written_at ((j, None) ∷ slots) from zero i p q rising is = absurd (let gap : None ≡ Some q = same_content (j, None) (i, Some q) is in cc)
+written_at ((j, None) ∷ slots) from (suc at) i p q rising is = written_at slots (suc j) at i p q rising.2 is
+written_at ((j, Some r) ∷ slots) from zero i p q rising is =
+    let this = sym (same_index (j, Some r) (i, Some q) is) in
+    ap (λ m. (decimal m, p) ∷ elements_of slots) this
+    ∙ sym (ap (λ b. cond b ((decimal j, p) ∷ elements_of slots) ((decimal j, r) ∷ with_property (elements_of slots) (decimal i) p))
+    (ap (λ m. bytes_eq (decimal m) (decimal j)) this ∙ same_numeral (decimal j)))
+written_at ((j, Some r) ∷ slots) from (suc at) i p q rising is =
+    let among = index_from slots (suc j) at i (Some q) rising.2 is in
+    ap (λ es. (decimal j, r) ∷ es) (written_at slots (suc j) at i p q rising.2 is)
+    ∙ sym (ap (λ b. cond b ((decimal j, p) ∷ elements_of slots) ((decimal j, r) ∷ with_property (elements_of slots) (decimal i) p))
+    (numerals_differ i j (omega (arith, among.1)) (omega (arith, rising.1)) (λ same. omega (arith, among.0))))
 
--- an empty place at the end can go
-end_dropped : (places : Places) (at k : ℕ) → length places ≡ suc k → slice_get places k ≡ Some None → numbered at (take k places) ≡ numbered at places
-end_dropped [] at k is last = absurd (omega arith)
-end_dropped (p ∷ []) at zero is last = let this : p ≡ None = cc in ap (λ q. numbered at (q ∷ [])) (sym this)
-end_dropped (p ∷ q ∷ places) at zero is last = absurd (omega arith)
-end_dropped (None ∷ places) at (suc k) is last = end_dropped places (at + 1) k (omega arith) last
-end_dropped (Some p ∷ places) at (suc k) is last = ap (λ es. (decimal at, p) ∷ es) (end_dropped places (at + 1) k (omega arith) last)
+elements_of-append : (slots : Slots) (n : ℕ) (p : Property) → elements_of (slots ++ (n, Some p) ∷ []) ≡ elements_of slots ++ (decimal n, p) ∷ []
+elements_of-append [] n p = refl
+elements_of-append ((i, None) ∷ slots) n p = elements_of-append slots n p
+elements_of-append ((i, Some q) ∷ slots) n p = ap (λ es. (decimal i, q) ∷ es) (elements_of-append slots n p)
 
-pub gap_dropped : (places : Places) (k : ℕ) → k ≡ length places - 1 → is_gap (slice_get places k) ≡ true → elements_of (take k places) ≡ elements_of places
-gap_dropped [] k is last = absurd (cc)
-gap_dropped (p ∷ places) k is last = end_dropped (p ∷ places) 0 k (omega arith) (gap (slice_get (p ∷ places) k) last)
+-- without the property in a slot
+taken_away : (slots : Slots) (from at i : ℕ) (o : Option Property) → AreRising from slots → slice_get slots at ≡ Some (i, o)
+    → elements_of (set slots at (i, None)) ≡ without_property (elements_of slots) (decimal i)
+taken_away [] from at i o rising is = absurd (cc)
+taken_away ((j, None) ∷ slots) from zero i o rising is =
+    let this = same_index (j, None) (i, o) is in
+    sym (without_property-missing (elements_of slots) (decimal i) (none_before slots (suc j) i rising.2 (omega (arith, rising.1)) (omega arith)))
+taken_away ((j, None) ∷ slots) from (suc at) i o rising is = taken_away slots (suc j) at i o rising.2 is
+taken_away ((j, Some q) ∷ slots) from zero i o rising is =
+    let this = sym (same_index (j, Some q) (i, o) is) in
+    sym (ap (λ b. cond b (elements_of slots) ((decimal j, q) ∷ without_property (elements_of slots) (decimal i)))
+    (ap (λ m. bytes_eq (decimal m) (decimal j)) this ∙ same_numeral (decimal j)))
+taken_away ((j, Some q) ∷ slots) from (suc at) i o rising is =
+    let among = index_from slots (suc j) at i o rising.2 is in
+    ap (λ es. (decimal j, q) ∷ es) (taken_away slots (suc j) at i o rising.2 is)
+    ∙ sym (ap (λ b. cond b (elements_of slots) ((decimal j, q) ∷ without_property (elements_of slots) (decimal i)))
+    (numerals_differ i j (omega (arith, among.1)) (omega (arith, rising.1)) (λ same. omega (arith, among.0))))
 
--- ---- the names of places
+-- gaps can go, all of them or one at the end
+pub elements_of-filled : (slots : Slots) → elements_of (filter is_filled slots) ≡ elements_of slots
+elements_of-filled [] = refl
+elements_of-filled ((i, None) ∷ slots) = elements_of-filled slots
+elements_of-filled ((i, Some p) ∷ slots) = ap (λ es. (decimal i, p) ∷ es) (elements_of-filled slots)
 
-numerals_all_differ : (places : Places) (at : ℕ) → at + length places ≤ 4294967295 → NamesDiffer (numbered at places)
-numerals_all_differ [] at few = tt
-numerals_all_differ (None ∷ places) at few = numerals_all_differ places (at + 1) (omega arith)
-numerals_all_differ (Some p ∷ places) at few = (none_before places (at + 1) at (omega arith) (omega arith), numerals_all_differ places (at + 1) (omega arith))
+end_dropped : (slots : Slots) (k : ℕ) → length slots ≡ suc k → is_gap (slice_get slots k) ≡ true → elements_of (take k slots) ≡ elements_of slots
+end_dropped [] k last gap = absurd (omega arith)
+end_dropped ((i, None) ∷ []) zero last gap = refl
+end_dropped ((i, Some p) ∷ []) zero last gap = absurd (cc)
+end_dropped (s ∷ t ∷ slots) zero last gap = absurd (omega arith)
+end_dropped ((i, None) ∷ slots) (suc k) last gap = end_dropped slots k (omega arith) gap
+end_dropped ((i, Some p) ∷ slots) (suc k) last gap = ap (λ es. (decimal i, p) ∷ es) (end_dropped slots k (omega arith) gap)
 
-no_others : (places : Places) (at : ℕ) → at + length places ≤ 4294967295 → other_names (numbered at places) ≡ []
-no_others [] at few = refl
-no_others (None ∷ places) at few = no_others places (at + 1) (omega arith)
-no_others (Some p ∷ places) at few =
-    ap (λ o. (cond p.listed (name_unless_index (decimal at) o) []) ++ other_names (numbered (at + 1) places)) (array_index-decimal at (omega arith))
-    ∙ ap (λ names. names ++ other_names (numbered (at + 1) places)) (nothing p.listed)
-    ∙ no_others places (at + 1) (omega arith)
+pub gap_dropped : (slots : Slots) (k : ℕ) → AreRising 0 slots → k ≡ length slots - 1 → is_gap (slice_get slots k) ≡ true
+    → (elements_of (take k slots) ≡ elements_of slots) × AreRising 0 (take k slots)
+gap_dropped [] k rising last gap = absurd (cc)
+gap_dropped (s ∷ slots) k rising last gap = (end_dropped (s ∷ slots) k (omega arith) gap, AreRising-take (s ∷ slots) 0 k rising)
+
+-- ---- the names of slots
+
+numerals_all_differ : (slots : Slots) (from : ℕ) → AreRising from slots → NamesDiffer (elements_of slots)
+numerals_all_differ [] from rising = tt
+numerals_all_differ ((i, None) ∷ slots) from rising = numerals_all_differ slots (suc i) rising.2
+numerals_all_differ ((i, Some p) ∷ slots) from rising =
+    (none_before slots (suc i) i rising.2 (omega (arith, rising.1)) (omega arith), numerals_all_differ slots (suc i) rising.2)
+
+no_others : (slots : Slots) (from : ℕ) → AreRising from slots → other_names (elements_of slots) ≡ []
+no_others [] from rising = refl
+no_others ((i, None) ∷ slots) from rising = no_others slots (suc i) rising.2
+no_others ((i, Some p) ∷ slots) from rising =
+    ap (λ o. (cond p.listed (name_unless_index (decimal i) o) []) ++ other_names (elements_of slots)) (array_index-decimal i rising.1)
+    ∙ ap (λ names. names ++ other_names (elements_of slots)) (nothing p.listed)
+    ∙ no_others slots (suc i) rising.2
   where
     nothing : (b : Bool) → cond b (name_unless_index [] (Some 0)) [] ≡ name_unless_index [] (Some 0)
     nothing true = refl
     nothing false = refl
 
 -- the indexes so far are below the next
-abbrev AreBelow : ℕ → List (ℕ × List ℕ) → Type 0
-AreBelow at [] = Unit {0}
-AreBelow at (e ∷ es) = (e.0 < at) × AreBelow at es
+abbrev AreUnder : List (ℕ × List ℕ) → ℕ → Type 0
+AreUnder [] n = Unit {0}
+AreUnder (e ∷ es) n = (e.0 < n) × AreUnder es n
 
-AreBelow-more : (at : ℕ) (es : List (ℕ × List ℕ)) → AreBelow at es → AreBelow (at + 1) es
-AreBelow-more at [] below = tt
-AreBelow-more at (e ∷ es) below = (omega (arith, below.0), AreBelow-more at es below.1)
+AreUnder-more : (es : List (ℕ × List ℕ)) (n more : ℕ) → n ≤ more → AreUnder es n → AreUnder es more
+AreUnder-more [] n more low under = tt
+AreUnder-more (e ∷ es) n more low under = (omega (arith, under.0), AreUnder-more es n more low under.1)
 
-AreBelow-put : (at : ℕ) (es : List (ℕ × List ℕ)) (name : List ℕ) → AreBelow at es → AreBelow (at + 1) (es ++ (at, name) ∷ [])
-AreBelow-put at [] name below = (omega arith, tt)
-AreBelow-put at (e ∷ es) name below = (omega (arith, below.0), AreBelow-put at es name below.1)
+AreUnder-put : (es : List (ℕ × List ℕ)) (n : ℕ) (name : List ℕ) → AreUnder es n → AreUnder (es ++ (n, name) ∷ []) (suc n)
+AreUnder-put [] n name under = (omega arith, tt)
+AreUnder-put (e ∷ es) n name under = (omega (arith, under.0), AreUnder-put es n name under.1)
 
-put_last : (at : ℕ) (es : List (ℕ × List ℕ)) (name : List ℕ) → AreBelow at es → insert_entry nat_cmp es at name ≡ es ++ (at, name) ∷ []
-put_last at [] name below = refl
-put_last at (e ∷ es) name below =
-    ap (λ o. match_ordering o ((at, name) ∷ e ∷ es) ((e.0, name) ∷ es) (e ∷ insert_entry nat_cmp es at name)) (sym (nat_cmp_is at e.0 Greater below.0))
-    ∙ ap (λ rest. e ∷ rest) (put_last at es name below.1)
+put_last : (es : List (ℕ × List ℕ)) (n : ℕ) (name : List ℕ) → AreUnder es n → insert_entry nat_cmp es n name ≡ es ++ (n, name) ∷ []
+put_last [] n name under = refl
+put_last (e ∷ es) n name under =
+    ap (λ o. match_ordering o ((n, name) ∷ e ∷ es) ((e.0, name) ∷ es) (e ∷ insert_entry nat_cmp es n name)) (sym (nat_cmp_is n e.0 Greater under.0))
+    ∙ ap (λ rest. e ∷ rest) (put_last es n name under.1)
 
-values_of-append : (es : List (ℕ × List ℕ)) (at : ℕ) (name : List ℕ) → values_of (es ++ (at, name) ∷ []) ≡ values_of es ++ name ∷ []
-values_of-append [] at name = refl
-values_of-append (e ∷ es) at name = ap (λ names. e.1 ∷ names) (values_of-append es at name)
+values_of-append : (es : List (ℕ × List ℕ)) (n : ℕ) (name : List ℕ) → values_of (es ++ (n, name) ∷ []) ≡ values_of es ++ name ∷ []
+values_of-append [] n name = refl
+values_of-append (e ∷ es) n name = ap (λ names. e.1 ∷ names) (values_of-append es n name)
 
-rising : (places : Places) (at : ℕ) (es : List (ℕ × List ℕ)) → AreBelow at es → at + length places ≤ 4294967295
-    → values_of (indexed_into es (numbered at places)) ≡ values_of es ++ listed_numerals at places
-rising [] at es below few = sym (append-nil (values_of es))
-rising (None ∷ places) at es below few = rising places (at + 1) es (AreBelow-more at es below) (omega arith)
-rising (Some p ∷ places) at es below few = ⊎_elim
+rising_names : (slots : Slots) (from : ℕ) (es : List (ℕ × List ℕ)) → AreUnder es from → AreRising from slots
+    → values_of (indexed_into es (elements_of slots)) ≡ values_of es ++ listed_numerals slots
+rising_names [] from es under rising = sym (append-nil (values_of es))
+rising_names ((i, None) ∷ slots) from es under rising = rising_names slots (suc i) es (AreUnder-more es from (suc i) (omega (arith, rising.0)) under) rising.2
+rising_names ((i, Some p) ∷ slots) from es under rising =
+    let low = AreUnder-more es from i rising.0 under in
+    ⊎_elim
     (λ listed.
-    ap (λ b. values_of (indexed_into (cond b (index_put es (decimal at) (array_index (decimal at))) es) (numbered (at + 1) places))) listed
-    ∙ ap (λ o. values_of (indexed_into (index_put es (decimal at) o) (numbered (at + 1) places))) (array_index-decimal at (omega arith))
-    ∙ ap (λ fs. values_of (indexed_into fs (numbered (at + 1) places))) (put_last at es (decimal at) below)
-    ∙ rising places (at + 1) (es ++ (at, decimal at) ∷ []) (AreBelow-put at es (decimal at) below) (omega arith)
-    ∙ ap (λ names. names ++ listed_numerals (at + 1) places) (values_of-append es at (decimal at))
-    ∙ append_assoc (values_of es) (decimal at ∷ []) (listed_numerals (at + 1) places)
-    ∙ sym (ap (λ b. values_of es ++ ((cond b (decimal at ∷ []) []) ++ listed_numerals (at + 1) places)) listed))
+    ap (λ b. values_of (indexed_into (cond b (index_put es (decimal i) (array_index (decimal i))) es) (elements_of slots))) listed
+    ∙ ap (λ o. values_of (indexed_into (index_put es (decimal i) o) (elements_of slots))) (array_index-decimal i rising.1)
+    ∙ ap (λ fs. values_of (indexed_into fs (elements_of slots))) (put_last es i (decimal i) low)
+    ∙ rising_names slots (suc i) (es ++ (i, decimal i) ∷ []) (AreUnder-put es i (decimal i) low) rising.2
+    ∙ ap (λ names. names ++ listed_numerals slots) (values_of-append es i (decimal i))
+    ∙ append_assoc (values_of es) (decimal i ∷ []) (listed_numerals slots)
+    ∙ sym (ap (λ b. values_of es ++ ((cond b (decimal i ∷ []) []) ++ listed_numerals slots)) listed))
     (λ unlisted.
-    ap (λ b. values_of (indexed_into (cond b (index_put es (decimal at) (array_index (decimal at))) es) (numbered (at + 1) places))) unlisted
-    ∙ rising places (at + 1) es (AreBelow-more at es below) (omega arith)
-    ∙ sym (ap (λ b. values_of es ++ ((cond b (decimal at ∷ []) []) ++ listed_numerals (at + 1) places)) unlisted))
+    ap (λ b. values_of (indexed_into (cond b (index_put es (decimal i) (array_index (decimal i))) es) (elements_of slots))) unlisted
+    ∙ rising_names slots (suc i) es (AreUnder-more es i (suc i) (omega arith) low) rising.2
+    ∙ sym (ap (λ b. values_of es ++ ((cond b (decimal i ∷ []) []) ++ listed_numerals slots)) unlisted))
     (cases_Bool p.listed)
 
-past : (places : Places) (n : ℕ) → length places ≤ n → element_at places n ≡ None
-past [] n behind = refl
-past (p ∷ places) zero behind = absurd (omega arith)
-past (p ∷ places) (suc n) behind = past places n (omega arith)
+-- behind the last slot nothing is left
+pub all_standing : (es : List (List ℕ × Property)) (slots all : Slots) (k : ℕ) → length slots ≤ k → es ++ elements_of (drop k slots) ≡ elements_of all → es ≡ elements_of all
+all_standing es slots all k end is = sym (append-nil es) ∙ sym (ap (λ ss. es ++ elements_of ss) (drop_all k slots end)) ∙ is
 
-at_end : (b : Bool) (n count : ℕ) → b ≡ false → (b || (nat_eq n count && nat_lt n 4294967295)) ≡ true → (n ≡ count) × (n < 4294967295)
-at_end true n count never taken = absurd (cc)
-at_end false n count never taken = (grind (arith, nat_tests), grind (arith, nat_tests))
+pub all_listed : (names : List (List ℕ)) (slots all : Slots) (k : ℕ) → length slots ≤ k → names ++ listed_numerals (drop k slots) ≡ listed_numerals all → names ≡ listed_numerals all
+all_listed names slots all k end is = sym (append-nil names) ∙ sym (ap (λ ss. names ++ listed_numerals ss) (drop_all k slots end)) ∙ is
 
--- behind the last place nothing is left
-pub all_numbered : (es : List (List ℕ × Property)) (places all : Places) (at k : ℕ) → length places ≤ k → es ++ numbered at (drop k places) ≡ elements_of all → es ≡ elements_of all
-all_numbered es places all at k end is = sym (append-nil es) ∙ sym (ap (λ ps. es ++ numbered at ps) (drop_all k places end)) ∙ is
+-- ---- in the words of the calls
 
-pub all_listed : (names : List (List ℕ)) (places all : Places) (at k : ℕ) → length places ≤ k → names ++ listed_numerals at (drop k places) ≡ listed_numerals 0 all
-    → names ≡ listed_numerals 0 all
-all_listed names places all at k end is = sym (append-nil names) ∙ sym (ap (λ ps. names ++ listed_numerals at ps) (drop_all k places end)) ∙ is
+module _ (slots : Slots) (rising : AreRising 0 slots) where
+  nothing_named : (name : List ℕ) → array_index name ≡ None → property_at (elements_of slots) name ≡ None
+  nothing_named name none = apart_from_all slots 0 name rising (λ m small. ⊎_elim
+      (λ same. absurd (let index = sym none ∙ ap array_index (same_name name (decimal m) same) ∙ array_index-decimal m small in cc))
+      (λ apart. apart)
+      (cases_Bool (bytes_eq name (decimal m))))
 
--- ---- in the words of the calls, where no place is past the array indexes
+  pub named : (name : List ℕ) (o : Option ℕ) → o ≡ array_index name → IfSome o (λ index. name ≡ decimal index) × IfNone o (property_at (elements_of slots) name ≡ None)
+  named name None is = (tt, nothing_named name (sym is))
+  named name (Some n) is = ((decimal-array_index name n (sym is)).0, tt)
 
-module _ (places : Places) (few : length places ≤ 4294967295) where
-  pub element_named : (n : ℕ) → n < 4294967296 → property_at (elements_of places) (decimal n) ≡ element_at places n
-  element_named n small = numbered_at places 0 n n (omega arith) (omega arith) small
+  nothing_lacked : (n : ℕ) → n < 4294967296 → LacksIndex slots n → property_at (elements_of slots) (decimal n) ≡ None
+  nothing_lacked n small lacks = none_lacked slots 0 n rising small lacks
 
-  pub nothing_named : (name : List ℕ) → array_index name ≡ None → property_at (elements_of places) name ≡ None
-  nothing_named name none = none_unless_index places 0 name (omega arith) none
+  order_rises : (n : ℕ) → IsNonDecreasingBy (λ s. ordering_index (nat_cmp s.0 n)) slots
+  order_rises n = IsNonDecreasingBy-from_default (λ s. ordering_index (nat_cmp s.0 n)) slots (0, None) (λ i j low within.
+      let rise = indexes_rise slots 0 i j rising low within in
+      grind (arith, nat_tests))
 
-  pub nothing_behind : (n : ℕ) → length places ≤ n → n < 4294967296 → property_at (elements_of places) (decimal n) ≡ None
-  nothing_behind n behind small = none_behind places 0 n (omega arith) small
+  -- it ends at the slot of the index, or finds none
+  pub searched : (n : ℕ) (r : Result ℕ ℕ) → n < 4294967296 → IsSearchInRange r (length slots) → IsBinarySearchResult (λ s. nat_cmp s.0 n) slots r
+      → record { found : IfOk r (λ at. HasIndex slots n at); missing : IfErr r (λ at. property_at (elements_of slots) (decimal n) ≡ None) }
+  searched n (Ok at) small within equal =
+      let slot = get_or slots at (0, None) in
+      let this : slot.0 ≡ n = ranked _ n _ (sym (equal (0, None))) in
+      record {
+        found = record { content = slot.1; is = slice_get-get_or slots at (0, None) within ∙ ap (λ i. Some (i, slot.1)) this };
+        missing = tt;
+      }
+  searched n (Err at) small within parted = record {
+    found = tt;
+    missing = nothing_lacked n small (LacksIndex-places slots n (λ k below same.
+        let before : k < at → index_in slots k < n = λ lt. ranked _ n _ (sym ((parted (order_rises n)).0 k (0, None) (omega arith) lt)) in
+        let after : at ≤ k → n < index_in slots k = λ le. ranked _ n _ (sym ((parted (order_rises n)).1 k (0, None) le below)) in
+        grind (arith, before, after)));
+  }
 
-  pub nothing_next : (n : ℕ) → n ≡ length places → property_at (elements_of places) (decimal n) ≡ None
-  nothing_next n next = none_behind places 0 n (omega arith) (omega arith)
+  pub nothing_next : (n : ℕ) → is_next slots n ≡ true → property_at (elements_of slots) (decimal n) ≡ None
+  nothing_next n next =
+      let behind = below_next slots n rising next in
+      none_lacked slots 0 n rising (omega (arith, behind.1)) (LacksIndex-below slots n behind.0)
 
-  pub element_written : (n : ℕ) (p : Property) → n < length places → takes places n ≡ true → elements_of (set places n (Some p)) ≡ with_property (elements_of places) (decimal n) p
-  element_written n p within taken = written_at places 0 n n p (omega arith) (omega arith) (omega arith) (there (is_some (element_at places n)) taken)
+  stands_in : (at n : ℕ) (o : Option Property) → slice_get slots at ≡ Some (n, o) → property_at (elements_of slots) (decimal n) ≡ o
+  stands_in at n o is = stands_at slots 0 at n o rising is
+
+  -- what the slot at a place that has the index holds
+  pub stands_by : (now : Slots) (n at : ℕ) (slot : ℕ × Option Property) → slots ≡ now → HasIndex now n at → slot ≡ get_or slots at slot
+      → slot.1 ≡ property_at (elements_of now) (decimal n)
+  stands_by now n at slot whole has read =
+      let has' = subst (λ (ss : Slots). HasIndex ss n at) (sym whole) has in
+      let there = slice_get-get_or slots at slot (within slots at n has') in
+      let this : (n, has'.content) ≡ slot = (let q : Some (n, has'.content) ≡ Some slot = sym has'.is ∙ there ∙ ap (λ s. Some s) (sym read) in cc) in
+      sym (ap (λ s. s.1) this) ∙ sym (stands_in at n has'.content has'.is) ∙ ap (λ ss. property_at (elements_of ss) (decimal n)) whole
+
+  pub rising_set : (at n : ℕ) (o p : Option Property) → slice_get slots at ≡ Some (n, o) → AreRising 0 (set slots at (n, p))
+  rising_set at n o p is = AreRising-set slots 0 at n o p rising is
+
+  pub element_written : (at n : ℕ) (o : Option Property) (p : Property) → slice_get slots at ≡ Some (n, o) → takes slots n ≡ true
+      → elements_of (set slots at (n, Some p)) ≡ with_property (elements_of slots) (decimal n) p
+  element_written at n (Some q) p is taken = written_at slots 0 at n p q rising is
+  element_written at n None p is taken =
+      let next : is_next slots n ≡ true = ap (λ o. is_some o || is_next slots n) (sym (stands_in at n None is)) ∙ taken in
+      absurd (not_below slots at (below_next slots n rising next).0 is)
     where
-      there : (b : Bool) → (b || is_next places n) ≡ true → b ≡ true
-      there true e = refl
-      there false e = grind (arith, nat_tests)
+      not_below : (ss : Slots) (k : ℕ) → AreBelow ss n → slice_get ss k ≡ Some (n, None) → ⊥
+      not_below [] k below there = absurd (cc)
+      not_below (s ∷ ss) zero below there = let this = same_index s (n, None) there in omega (arith, below.0)
+      not_below (s ∷ ss) (suc k) below there = not_below ss k below.1 there
 
-  pub element_appended : (n : ℕ) (p : Property) → length places ≤ n → n < 4294967296 → takes places n ≡ true
-      → (n < 4294967295) × (elements_of (places ++ Some p ∷ []) ≡ with_property (elements_of places) (decimal n) p)
-  element_appended n p behind small taken =
-      let next = at_end (is_some (element_at places n)) n (length places) (ap is_some (past places n behind)) taken in
-      (next.1, appended places n p next.0 next.1)
+  pub element_appended : (n : ℕ) (p : Property) → property_at (elements_of slots) (decimal n) ≡ None → takes slots n ≡ true
+      → AreRising 0 (slots ++ (n, Some p) ∷ []) × (elements_of (slots ++ (n, Some p) ∷ []) ≡ with_property (elements_of slots) (decimal n) p)
+  element_appended n p none taken =
+      let next : is_next slots n ≡ true = ap (λ o. is_some o || is_next slots n) (sym none) ∙ taken in
+      let behind = below_next slots n rising next in (
+        AreRising-append slots 0 n (Some p) rising behind.0 (omega arith) behind.1,
+        elements_of-append slots n p ∙ sym (with_property-missing (elements_of slots) (decimal n) p none),
+      )
 
-  pub element_taken_away : (n : ℕ) → n < 4294967296 → elements_of (set places n None) ≡ without_property (elements_of places) (decimal n)
-  element_taken_away n small = taken_away places 0 n n (omega arith) (omega arith) small
+  pub element_taken_away : (at n : ℕ) (o : Option Property) → slice_get slots at ≡ Some (n, o) → elements_of (set slots at (n, None)) ≡ without_property (elements_of slots) (decimal n)
+  element_taken_away at n o is = taken_away slots 0 at n o rising is
 
-  -- nothing is taken away where nothing stands
-  pub none_taken_away : (n : ℕ) → length places ≤ n → n < 4294967296 → elements_of places ≡ without_property (elements_of places) (decimal n)
-  none_taken_away n behind small = sym (without_property-missing (elements_of places) (decimal n) (none_behind places 0 n (omega arith) small))
+  pub rising_filled : AreRising 0 (filter is_filled slots)
+  rising_filled = AreRising-filled slots 0 rising
 
-  pub names_differ : NamesDiffer (elements_of places)
-  names_differ = numerals_all_differ places 0 (omega arith)
+  pub names_differ : NamesDiffer (elements_of slots)
+  names_differ = numerals_all_differ slots 0 rising
 
-  -- the listed names are the numerals of the listed places
-  pub listed_names_of-places : listed_names_of (elements_of places) ≡ listed_numerals 0 places
-  listed_names_of-places =
-      ap (λ names. values_of (indexed_into [] (elements_of places)) ++ names) (no_others places 0 (omega arith))
-      ∙ append-nil (values_of (indexed_into [] (elements_of places)))
-      ∙ rising places 0 [] tt (omega arith)
+  -- the listed names are the numerals of the listed slots
+  pub listed_names_of-slots : listed_names_of (elements_of slots) ≡ listed_numerals slots
+  listed_names_of-slots =
+      ap (λ names. values_of (indexed_into [] (elements_of slots)) ++ names) (no_others slots 0 rising)
+      ∙ append-nil (values_of (indexed_into [] (elements_of slots)))
+      ∙ rising_names slots 0 [] tt rising

@@ -1,7 +1,6 @@
-// Properties in places.
+// Properties under array indexes.
 ghost use Rattle.std.specs.Prelude.{
   ◌≡◌,
-  ◌≤◌,
   ◌-◌,
   ◌++◌,
   ◌∷◌,
@@ -10,6 +9,7 @@ ghost use Rattle.std.specs.Prelude.{
   None,
   Some,
   length,
+  filter,
   slice_get,
   IfOk,
   IfSome,
@@ -29,11 +29,14 @@ ghost use Rattle.heap_elements.specs.Properties.{
 ghost use Rattle.heap_elements.specs.Places.{NamesDiffer};
 ghost use Rattle.heap_elements.specs.Elements.{
   elements_of,
-  property_in,
-  element_at,
+  AreRising,
+  has_index,
+  is_below,
   is_next,
   takes,
   taken_index,
+  HasIndex,
+  is_filled,
   is_gap,
   is_listed,
 };
@@ -44,22 +47,30 @@ use std::alloc::Global;
 use std::marker::Model;
 use utf16_text::{Memory, Text, TextList};
 
-/// Properties whose names are the decimal numerals of their places, seen as these places, some of them empty. The order
-/// of creation is that of the places. The last place is filled.
+/// An index with the property under it, or the gap that a deleted one left.
+type Slot = (u32, Option<Property>);
+
+/// Properties whose names are array indexes, each created behind those of lower indexes, seen as the slots in which they
+/// stand.
+///
+/// As long as no index was left out, each stands at the place of its number, and is found there in a step; else it is
+/// searched by halving. A deletion leaves a gap. Gaps at the end go at once. The others are closed after as many
+/// deletions as half of the slots, so that no walk meets more gaps than properties.
 #[derive(Drop)]
 pub struct Elements {
-    places: Vec<Option<Property>>,
+    slots: Vec<Slot>,
+    /// The deletions since the gaps were closed.
+    deletions: usize,
 }
 
 impl Model for Elements {
-    ghost use Rattle.std.specs.Prelude.{List, Option, ◌≤◌, length};
-    ghost use Rattle.heap_values.specs.declared.property.Property.{Property};
+    ghost use Rattle.heap_elements.specs.Elements.{Slots, AreRising};
 
-    ghost Value = { List (Option Property) };
+    ghost Value = { Slots };
 
-    ghost view = { λ e. e.places.items };
+    ghost view = { λ e. e.slots.items };
 
-    ghost invariant = { λ e. length e.places.items ≤ 4294967295 };
+    ghost invariant = { λ e. AreRising 0 e.slots.items };
 }
 
 impl Elements {
@@ -68,44 +79,47 @@ impl Elements {
         ensures { result ≡ [] }
     {
         Elements {
-            places: Vec::new(alloc),
+            slots: Vec::new(alloc),
+            deletions: 0,
         }
     }
 
     /// The property under an index.
     pub fn get(&self, index: u32) -> Option<&Property>
-        ensures element { option_copied result ≡ element_at self.now index }
-        ensures property { option_copied result ≡ property_at (elements_of self.now) (decimal index) }
+        ensures { option_copied result ≡ property_at (elements_of self.now) (decimal index) }
     {
-        in_place(&self.places, index)
+        match self.place_of(index) {
+            None => None,
+            Some(at) => self.slots[at].1.as_ref(),
+        }
     }
 
     /// The property of this name.
     pub fn find(&self, name: &Text) -> Option<&Property>
         ensures { option_copied result ≡ property_at (elements_of self.now) name.now }
     {
-        match self.place_of(name) {
+        match self.index_of(name) {
             None => None,
             Some(index) => self.get(index),
         }
     }
 
-    /// Whether the index is that of the place behind the last. Nothing stands under it.
+    /// Whether the index is past that of the last property. Nothing stands under it.
     pub fn is_next(&self, index: u32) -> bool
         ensures next { result ≡ is_next self.now index }
         ensures missing { result ≡ true → property_at (elements_of self.now) (decimal index) ≡ None }
     {
-        index as usize == self.places.len() && index < u32::MAX
+        ends_below(&self.slots, index) && index < u32::MAX
     }
 
-    /// Whether a property under this index stands in its place or goes into the next.
+    /// Whether a property under this index stands in its slot or goes behind the last.
     pub fn takes(&self, index: u32) -> bool
         ensures { result ≡ takes self.now index }
     {
         self.get(index).is_some() || self.is_next(index)
     }
 
-    /// The index that a name is, where a property under it stands in its place or goes into the next.
+    /// The index that a name is, where a property under it stands in its slot or goes behind the last.
     pub fn taken_index(&self, name: &Text) -> Option<u32>
         ensures taken { result ≡ taken_index self.now (index_of name.now) }
         ensures name { IfSome result (λ index. name.now ≡ decimal index) }
@@ -115,29 +129,35 @@ impl Elements {
         if self.takes(index) { Some(index) } else { None }
     }
 
-    /// Gives the index the property: in its place where it is there, else behind the last.
+    /// Gives the index the property: in its slot where it is there, else behind the last.
     pub fn set(&mut self, index: u32, property: Property) -> Result<(), Memory>
         requires { takes self.old index ≡ true }
         ensures ok { OnOk result (elements_of self.new ≡ with_property (elements_of self.old) (decimal index) property) }
         ensures unchanged { OnErr result (self.new ≡ self.old) }
     {
-        let at = index as usize;
-        if at < self.places.len() {
-            self.places[at] = Some(property);
-            return Ok(());
+        match self.place_of(index) {
+            None => {
+                append(&mut self.slots, index, property)?;
+                Ok(())
+            }
+            Some(at) => {
+                self.slots[at] = (index, Some(property));
+                Ok(())
+            }
         }
-        append(&mut self.places, property)?;
-        Ok(())
     }
 
     /// Takes the property under this index away, where there is one. The others keep their order.
     pub fn remove(&mut self, index: u32)
         ensures { elements_of self.new ≡ without_property (elements_of self.old) (decimal index) }
     {
-        let at = index as usize;
-        if at < self.places.len() {
-            self.places[at] = None;
-            drop_empty_end(&mut self.places);
+        match self.place_of(index) {
+            None => {}
+            Some(at) => {
+                self.slots[at] = (index, None);
+                self.deletions = self.deletions.saturating_add(1);
+                self.close_gaps();
+            }
         }
     }
 
@@ -145,27 +165,43 @@ impl Elements {
     pub fn remove_name(&mut self, name: &Text)
         ensures { elements_of self.new ≡ without_property (elements_of self.old) name.now }
     {
-        match self.place_of(name) {
+        match self.index_of(name) {
             None => {}
             Some(index) => self.remove(index),
         }
     }
 
-    // The place of this name.
-    fn place_of(&self, name: &Text) -> Option<u32>
+    // The index that a name is. An empty list needs none.
+    fn index_of(&self, name: &Text) -> Option<u32>
         ensures name { IfSome result (λ index. name.now ≡ decimal index) }
         ensures missing { IfNone result (property_at (elements_of self.now) name.now ≡ None) }
     {
-        let count = self.places.len();
-        match array_index(name) {
-            None => None,
-            Some(index) => {
-                if (index as usize) < count {
-                    Some(index)
-                } else {
-                    None
-                }
-            }
+        if self.slots.is_empty() {
+            return None;
+        }
+        array_index(name)
+    }
+
+    // The place of the slot that has this index.
+    fn place_of(&self, index: u32) -> Option<usize>
+        ensures found { IfSome result (λ at. HasIndex self.now index at) }
+        ensures missing { IfNone result (property_at (elements_of self.now) (decimal index) ≡ None) }
+    {
+        let at = index as usize;
+        if has_index(&self.slots, at, index) {
+            return Some(at);
+        }
+        searched(&self.slots, index)
+    }
+
+    // Takes the gaps at the end out, and the others once there may be many.
+    fn close_gaps(&mut self)
+        ensures { elements_of self.new ≡ elements_of self.old }
+    {
+        drop_empty_end(&mut self.slots);
+        if self.deletions > self.slots.len() / 2 {
+            drop_gaps(&mut self.slots);
+            self.deletions = 0;
         }
     }
 
@@ -175,12 +211,10 @@ impl Elements {
         ensures differ { IfOk result (λ row. NamesDiffer row.items) }
     {
         let mut row = Vec::new(alloc);
-        let mut index = 0;
-        for place in &self.places {
-            if let Some(property) = place {
-                row.push((index_name(alloc, index)?, property.copy(alloc)?))?;
+        for slot in &self.slots {
+            if let Some(property) = &slot.1 {
+                row.push((index_name(alloc, slot.0)?, property.copy(alloc)?))?;
             }
-            index += 1;
         }
         Ok(row)
     }
@@ -190,59 +224,86 @@ impl Elements {
         ensures { IfOk result (λ names. names ≡ listed_names_of (elements_of self.now)) }
     {
         let mut names = TextList::new(alloc);
-        let mut index = 0;
-        for place in &self.places {
-            if is_listed(place) {
-                names.push(alloc, index_name(alloc, index)?)?;
+        for slot in &self.slots {
+            if is_listed(&slot.1) {
+                names.push(alloc, index_name(alloc, slot.0)?)?;
             }
-            index += 1;
         }
         Ok(names)
     }
 }
 
-fn in_place(places: &[Option<Property>], index: u32) -> Option<&Property>
-    ensures { option_copied result ≡ element_at places.now index }
+fn has_index(slots: &[Slot], at: usize, index: u32) -> bool
+    ensures { result ≡ has_index (slice_get slots.now at) index }
 {
-    match places.get(index as usize) {
-        Some(Some(property)) => Some(property),
-        _ => None,
+    match slots.get(at) {
+        None => false,
+        Some(slot) => slot.0 == index,
     }
 }
 
-fn is_listed(place: &Option<Property>) -> bool
-    ensures { result ≡ is_listed place.now }
+// The place of the slot that has this index, by halving.
+fn searched(slots: &[Slot], index: u32) -> Option<usize>
+    requires { AreRising 0 slots.now }
+    ensures found { IfSome result (λ at. HasIndex slots.now index at) }
+    ensures missing { IfNone result (property_at (elements_of slots.now) (decimal index) ≡ None) }
 {
-    match place {
+    match slots.binary_search_by_key(&index, |slot| slot.0) {
+        Ok(at) => Some(at),
+        Err(_) => None,
+    }
+}
+
+fn ends_below(slots: &[Slot], index: u32) -> bool
+    ensures { result ≡ is_below (slice_get slots.now (length slots.now - 1)) index }
+{
+    match slots.last() {
+        None => true,
+        Some(slot) => slot.0 < index,
+    }
+}
+
+fn is_listed(content: &Option<Property>) -> bool
+    ensures { result ≡ is_listed content.now }
+{
+    match content {
         None => false,
         Some(property) => property.listed,
     }
 }
 
 // Puts a property behind the others. A full row grows by a half, so that a few take little more room than they need.
-fn append(places: &mut Vec<Option<Property>>, property: Property) -> Result<(), Memory>
-    ensures ok { OnOk result (places.new.items ≡ places.old.items ++ Some property ∷ []) }
-    ensures unchanged { OnErr result (places.new.items ≡ places.old.items) }
+fn append(slots: &mut Vec<Slot>, index: u32, property: Property) -> Result<(), Memory>
+    ensures ok { OnOk result (slots.new.items ≡ slots.old.items ++ (index, Some property) ∷ []) }
+    ensures unchanged { OnErr result (slots.new.items ≡ slots.old.items) }
 {
-    if places.len() == places.capacity() {
-        places.reserve_exact(places.len() / 2 + 1)?;
+    if slots.len() == slots.capacity() {
+        slots.reserve_exact(slots.len() / 2 + 1)?;
     }
-    places.push(Some(property))?;
+    slots.push((index, Some(property)))?;
     Ok(())
 }
 
-// Takes the empty places at the end away.
-fn drop_empty_end(places: &mut Vec<Option<Property>>)
-    ensures same { elements_of places.new.items ≡ elements_of places.old.items }
-    ensures fewer { length places.new.items ≤ length places.old.items }
+// Takes the gaps at the end out.
+fn drop_empty_end(slots: &mut Vec<Slot>)
+    requires { AreRising 0 slots.old.items }
+    ensures same { elements_of slots.new.items ≡ elements_of slots.old.items }
+    ensures rising { AreRising 0 slots.new.items }
 {
-    while ends_empty(places) {
-        let _empty = places.pop();
+    while ends_empty(slots) {
+        let _empty = slots.pop();
     }
 }
 
-fn ends_empty(places: &[Option<Property>]) -> bool
-    ensures { result ≡ is_gap (slice_get places.now (length places.now - 1)) }
+fn ends_empty(slots: &[Slot]) -> bool
+    ensures { result ≡ is_gap (slice_get slots.now (length slots.now - 1)) }
 {
-    matches!(places.last(), Some(None))
+    matches!(slots.last(), Some((_, None)))
+}
+
+// Takes all gaps out. It takes no memory.
+fn drop_gaps(slots: &mut Vec<Slot>)
+    ensures { slots.new.items ≡ filter is_filled slots.old.items }
+{
+    slots.retain(|slot| slot.1.is_some());
 }

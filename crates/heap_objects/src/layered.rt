@@ -93,7 +93,7 @@ impl Layered {
         self.own.element(index)
     }
 
-    /// Whether the next element has this index. Nothing stands under it.
+    /// Whether an element under this index goes behind the last. Nothing stands under it.
     pub(crate) fn is_next(&self, index: u32) -> bool
         ensures { result ≡ true → property_at self.now (decimal index) ≡ None }
     {

@@ -27,7 +27,7 @@ const FEW: usize = 8;
 /// Properties with distinct names, seen as a list of names and properties in the order of creation.
 ///
 /// A few stand in a row, and many in a row with an index. Where the first is under the name 0, they are elements in
-/// places, until a name comes that is no index, or an index that isn't the next.
+/// slots, until a name comes that is no index, or an index that is new and not past the last.
 #[derive(Drop)]
 pub struct Properties {
     form: Form,
@@ -84,7 +84,7 @@ impl Properties {
         }
     }
 
-    /// Whether the next element has this index. Nothing stands under it.
+    /// Whether an element under this index goes behind the last. Nothing stands under it.
     pub fn is_next(&self, index: u32) -> bool
         ensures { result ≡ true → property_at self.now (decimal index) ≡ None }
     {
