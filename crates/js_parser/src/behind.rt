@@ -8,12 +8,7 @@ use js_reading::{Read, expect, next_sign, read_semicolon, rest_of};
 use js_tree::{Place, Sign, Token};
 
 /// A part, behind which this sign must stand.
-pub fn closed<'a, T: Drop>(
-    end: Place,
-    close: Sign,
-    part: T,
-    tokens: &'a [Token],
-) -> Read<'a, T>
+pub fn closed<'a, T: Drop>(end: Place, close: Sign, part: T, tokens: &'a [Token]) -> Read<'a, T>
     ensures { Reads (spec.closed end close part tokens.now) result }
 {
     let rest = expect(end, close, tokens)?;

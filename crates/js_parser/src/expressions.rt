@@ -18,11 +18,10 @@ use js_reading::{
     read_parameters, read_word, refused, refused_word, rest_of, row, suffixed_by, unbound,
 };
 use js_tree::{
-    BoundName, Expression, ExpressionList, ExpressionNode, Function, ItemList, Keyword, NameList,
-    Operand, OperandList, Place, Property, PropertyList, ReadAnswer, ReadKind, Sign, Statement,
-    Suffix, SuffixList, SuffixNode, Token, TokenKind, UpdateForm,
+    BoundName, Expression, ExpressionList, ExpressionNode, Function, Keyword, NameList, Operand,
+    OperandList, Place, Property, ReadAnswer, ReadKind, Sign, Suffix, SuffixNode, Token, TokenKind,
+    UpdateForm,
 };
-use std::alloc::Global;
 use utf16_text::Text;
 
 /// An expression without parts.
@@ -86,7 +85,7 @@ impl Row for Items {
 
     ghost turn = { λ self end d. spec.an_item end d };
 
-    /// An item or a hole of an array literal, or the `]` behind the last.
+    /// An item or a hole, or the `]` behind the last.
     #[tactic(auto, unfolding(js_grammar::specs::Expressions::an_item))]
     fn read_turn<'a, N: Nested>(
         &self,
@@ -110,7 +109,7 @@ impl Row for Properties {
 
     ghost turn = { λ self end d. spec.a_property end d };
 
-    /// A property of an object literal, or the `}` behind the last.
+    /// A property, or the `}` behind the last.
     #[tactic(auto, unfolding(js_grammar::specs::Expressions::a_property))]
     fn read_turn<'a, N: Nested>(
         &self,
@@ -200,6 +199,7 @@ impl<N: Nested> Parser<N> {
         }
     }
 
+    /// An item of an array literal, and whether a comma or the `]` stands behind it.
     #[tactic(auto, unfolding(js_grammar::specs::Expressions::item_value))]
     fn item_value<'a>(&self, tokens: &'a [Token]) -> Read<'a, Turn<Option<Expression>>>
         requires { N.holds self.now.nested }
@@ -209,6 +209,7 @@ impl<N: Nested> Parser<N> {
         listed(self.end, Sign::RightBracket, Some(value), rest)
     }
 
+    /// A property of an object literal, and whether a comma or the `}` stands behind it.
     #[tactic(auto, unfolding(js_grammar::specs::Expressions::named_property))]
     fn named_property<'a>(&self, tokens: &'a [Token]) -> Read<'a, Turn<Property>>
         requires { N.holds self.now.nested }
@@ -239,7 +240,10 @@ impl<N: Nested> Parser<N> {
         let rest = expect(self.end, Sign::LeftParenthesis, tokens)?;
         let (parameters, rest) = read_parameters(self.alloc, self.end, rest)?;
         let rest = expect(self.end, Sign::LeftBrace, rest)?;
-        let (body, rest) = self.row(&Statements { around: in_function() }, rest)?;
+        let statements = Statements {
+            around: in_function(),
+        };
+        let (body, rest) = self.row(&statements, rest)?;
         let function = Function {
             name,
             parameters,
@@ -416,6 +420,7 @@ impl<N: Nested> Parser<N> {
         Ok((Turn::More(Operand { place, op, value }), rest))
     }
 
+    /// The operators of a level with their operands. They recur with the levels, so their turn is no `Row`.
     #[cycle(levels)]
     fn operands<'a>(&self, form: Form, level: u32, tokens: &'a [Token]) -> Read<'a, OperandList>
         requires reads { N.holds self.now.nested }

@@ -30,7 +30,7 @@ pub trait Nested {
     /// What its calls need.
     ghost holds: { Self → Type 0 };
 
-    /// The readers of nested parts that it reads by.
+    /// How its calls read nested parts.
     ghost readers: { Self → Deeper };
 
     /// An assignment expression.

@@ -18,10 +18,11 @@ pub struct Parser<N> {
     pub alloc: Global,
     /// The place after the last unit.
     pub end: Place,
+    /// Reads nested parts.
     pub nested: N,
 }
 
-/// A row of parts.
+/// The parts of a row, which are read turn by turn.
 pub trait Row {
     type Part: Drop;
 

@@ -69,7 +69,7 @@ pub fn read_statement<'a>(
         },
     };
     match part {
-        StatementPart::Statement(around) => parser.statement_in(around, tokens),
-        StatementPart::Block(around) => parser.block_in(around, tokens),
+        StatementPart::Statement(around) => parser.statement(around, tokens),
+        StatementPart::Block(around) => parser.block(around, tokens),
     }
 }

@@ -1,7 +1,7 @@
 // Statements, by plain descent (ECMA-262 5.1, sections 12 and 13).
 ghost use Rattle.js_tree.specs.View.{target_of};
 ghost use Rattle.js_tree.specs.Parts.{start_or_none};
-ghost use Rattle.js_grammar.specs.Readers.{row, next_keyword};
+ghost use Rattle.js_grammar.specs.Readers.{next_keyword};
 ghost use Rattle.js_grammar.specs.Expressions.{a_statement};
 ghost use Rattle.js_grammar.specs.Statements as spec;
 ghost use Rattle.js_reading.specs.Reads.{Reads};
@@ -14,14 +14,12 @@ use js_lexer::keyword_of;
 use js_reading::{
     Read, alone, before_in, begins_line, broken, closes, continued, ends, expect, expect_while,
     has_part, in_loop, in_switch, inside, is_sign, is_target, next_keyword, next_sign, place_at,
-    read_name, read_semicolon, refused, rest_of, row, semicolon_if, with_default,
+    read_name, refused, rest_of, semicolon_if, with_default,
 };
 use js_tree::{
-    Branch, BranchList, Catch, Clause, ClauseList, Declared, DeclaredList, Expression, ForStart,
-    ForTarget, Keyword, Place, ReadAnswer, ReadKind, Sign, Statement, StatementList, StatementNode,
-    Token, TokenKind,
+    Branch, Catch, Clause, ClauseList, Declared, Expression, ForStart, ForTarget, Keyword, Place,
+    ReadAnswer, ReadKind, Sign, Statement, StatementNode, Token, TokenKind,
 };
-use std::alloc::Global;
 
 /// Statements up to what ends them.
 #[derive(Drop)]
@@ -76,7 +74,7 @@ impl Row for Declarations {
     }
 }
 
-/// Branches that `else if` parts.
+/// The branches of an `if`, each but the first behind `else if`.
 #[derive(Drop)]
 pub struct Branches {
     pub around: Around,
@@ -156,13 +154,16 @@ impl<N: Nested> Parser<N> {
         requires { N.holds self.now.nested }
         ensures { Reads (spec.block_from self.now.end (N.readers self.now.nested) around place tokens.now) result }
     {
-        let (body, rest) = self.row(&Statements { around: inside(around) }, tokens)?;
+        let statements = Statements {
+            around: inside(around),
+        };
+        let (body, rest) = self.row(&statements, tokens)?;
         let node = StatementNode::Block(body);
         closed(self.end, Sign::RightBrace, Statement { place, node }, rest)
     }
 
     #[tactic(auto, unfolding(js_grammar::specs::Statements::block))]
-    pub fn block_in<'a>(&self, around: Around, tokens: &'a [Token]) -> Read<'a, Statement>
+    pub fn block<'a>(&self, around: Around, tokens: &'a [Token]) -> Read<'a, Statement>
         requires { N.holds self.now.nested }
         ensures { Reads (spec.block self.now.end (N.readers self.now.nested) around tokens.now) result }
     {
@@ -171,6 +172,7 @@ impl<N: Nested> Parser<N> {
         self.block_from(around, place, rest)
     }
 
+    /// The first value of a declared name, where it has one.
     #[tactic(auto, unfolding(js_grammar::specs::Statements::first_value))]
     fn first_value<'a>(&self, form: Form, tokens: &'a [Token]) -> Read<'a, Option<Expression>>
         requires { N.holds self.now.nested }
@@ -631,7 +633,7 @@ impl<N: Nested> Parser<N> {
     }
 
     #[tactic(auto, unfolding(js_grammar::specs::Statements::statement))]
-    pub fn statement_in<'a>(&self, around: Around, tokens: &'a [Token]) -> Read<'a, Statement>
+    pub fn statement<'a>(&self, around: Around, tokens: &'a [Token]) -> Read<'a, Statement>
         requires { N.holds self.now.nested }
         ensures { Reads (spec.statement self.now.end (N.readers self.now.nested) around tokens.now) result }
     {
