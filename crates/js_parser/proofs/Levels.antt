@@ -12,11 +12,7 @@ use Rattle.js_grammar.specs.Readers.{row, place_at}
 use Rattle.js_grammar.specs.Expressions.{Deeper, unary, an_operand, chained, chain, level}
 
 module _ (end : Place) (d : Deeper) (form : Form) (ts : List Token) where
-  pub begins : (v : ExpressionTree) (rest : List Token) → unary end d ts ≡ Ok (v, rest) → level end d form 0 ts ≡ Ok (v, rest)
-  unfolding level
-  begins v rest e = e
-
-  pub goes_to : (k n : ℕ) (read : Result (ExpressionTree × List Token) Refusal) → k ≡ n → level end d form k ts ≡ read → level end d form n ts ≡ read
+  goes_to : (k n : ℕ) (read : Result (ExpressionTree × List Token) Refusal) → k ≡ n → level end d form k ts ≡ read → level end d form n ts ≡ read
   goes_to k n read same e = subst (λ m. level end d form m ts ≡ read) same e
 
   one_more : (k : ℕ) (v : ExpressionTree) (rest : List Token) (os : List Operand) (after : List Token) → level end d form k ts ≡ Ok (v, rest) → row (an_operand end form k (level end d form k)) rest ≡ Ok (os, after) → level end d form (suc k) ts ≡ Ok (chained (place_at end ts) v os, after)

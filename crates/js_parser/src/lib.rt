@@ -4,9 +4,11 @@
 //! profile. It stands on js_lexer, js_reading, js_grammar and js_tree.
 #![tactic(auto)]
 
+mod behind;
 mod expressions;
 mod nested;
 mod parser;
+mod reader;
 mod root;
 mod script;
 mod statements;

@@ -1,98 +1,50 @@
-// The parser, and how it goes on to nested parts.
+// The parser, and how it reads rows of parts.
+ghost use Rattle.js_tree.specs.declared.place.Place.{Place};
+ghost use Rattle.js_grammar.specs.declared.turn.Turn.{Turn};
+ghost use Rattle.js_grammar.specs.Readers.{Reader, row};
+ghost use Rattle.js_grammar.specs.Expressions.{Deeper};
 ghost use Rattle.js_reading.specs.Reads.{Reads};
-ghost use Rattle.js_parser.specs.Nested.{ReadsNested, nested};
 
-use crate::nested::{ExpressionPart, StatementPart};
-use js_grammar::{Around, Form};
-use js_reading::Read;
-use js_tree::{Expression, Place, Statement, Token};
+use crate::nested::Nested;
+use js_grammar::Turn;
+use js_reading::{Read, row};
+use js_tree::{Place, Token};
 use std::alloc::Global;
+use utf16_text::List;
 
-/// What the productions go by. The readers of nested parts are passed in, so that no production calls itself.
+/// What the productions go by. What reads nested parts is passed in, so that no production calls itself.
 #[derive(Drop)]
-pub struct Parser<E, S> {
+pub struct Parser<N> {
     pub alloc: Global,
     /// The place after the last unit.
     pub end: Place,
-    /// How many parts may be nested, one in another.
-    pub room: u32,
-    /// Reads a nested expression with this room.
-    pub expressions: E,
-    /// Reads a nested statement with this room.
-    pub statements: S,
+    /// Reads nested parts.
+    pub nested: N,
 }
 
-impl<
-    E: Fn(Global, Place, u32, ExpressionPart, &[Token]) -> Read<'_, Expression>,
-    S: Fn(Global, Place, u32, StatementPart, &[Token]) -> Read<'_, Statement>,
-> Parser<E, S> {
-    /// An assignment expression. It counts as nested.
-    pub fn value<'a>(&self, form: Form, tokens: &'a [Token]) -> Read<'a, Expression>
-        requires { ReadsNested E.Fn S.Fn self.now }
-        ensures { Reads ((nested self.now).value form tokens.now) result }
-    {
-        (self.expressions)(
-            self.alloc,
-            self.end,
-            self.room,
-            ExpressionPart::Value(form),
-            tokens,
-        )
-    }
+/// The parts of a row, which are read turn by turn.
+pub trait Row {
+    type Part: Drop;
 
-    /// The operand of a prefix operator. It counts as nested.
-    pub fn operand<'a>(&self, tokens: &'a [Token]) -> Read<'a, Expression>
-        requires { ReadsNested E.Fn S.Fn self.now }
-        ensures { Reads ((nested self.now).operand tokens.now) result }
-    {
-        (self.expressions)(
-            self.alloc,
-            self.end,
-            self.room,
-            ExpressionPart::Operand,
-            tokens,
-        )
-    }
+    /// What one turn reads.
+    ghost turn: { Self → Place → Deeper → Reader (Turn Self.Part) };
 
-    /// The callee of `new`. It counts as nested.
-    pub fn callee<'a>(&self, tokens: &'a [Token]) -> Read<'a, Expression>
-        requires { ReadsNested E.Fn S.Fn self.now }
-        ensures { Reads ((nested self.now).callee tokens.now) result }
-    {
-        (self.expressions)(
-            self.alloc,
-            self.end,
-            self.room,
-            ExpressionPart::Callee,
-            tokens,
-        )
-    }
+    /// Reads one turn.
+    fn read_turn<'a, N: Nested>(
+        &self,
+        parser: &Parser<N>,
+        tokens: &'a [Token],
+    ) -> Read<'a, Turn<Self::Part>>
+        requires { N.holds parser.now.nested }
+        ensures { Reads (turn self.now parser.now.end (N.readers parser.now.nested) tokens.now) result };
+}
 
-    /// A statement. It counts as nested.
-    pub fn statement<'a>(&self, around: Around, tokens: &'a [Token]) -> Read<'a, Statement>
-        requires { ReadsNested E.Fn S.Fn self.now }
-        ensures { Reads ((nested self.now).statement around tokens.now) result }
+impl<N: Nested> Parser<N> {
+    /// The parts that turns give one after another, up to the last.
+    pub fn row<'a, R: Row>(&self, parts: &R, tokens: &'a [Token]) -> Read<'a, List<R::Part>>
+        requires { N.holds self.now.nested }
+        ensures { Reads (row (R.turn parts.now self.now.end (N.readers self.now.nested)) tokens.now) result }
     {
-        (self.statements)(
-            self.alloc,
-            self.end,
-            self.room,
-            StatementPart::Statement(around),
-            tokens,
-        )
-    }
-
-    /// A block of `try`. It counts as nested.
-    pub fn block<'a>(&self, around: Around, tokens: &'a [Token]) -> Read<'a, Statement>
-        requires { ReadsNested E.Fn S.Fn self.now }
-        ensures { Reads ((nested self.now).block around tokens.now) result }
-    {
-        (self.statements)(
-            self.alloc,
-            self.end,
-            self.room,
-            StatementPart::Block(around),
-            tokens,
-        )
+        row(self.alloc, tokens, |rest| parts.read_turn(self, rest))
     }
 }

@@ -5,6 +5,7 @@ ghost use Rattle.js_parser.specs.Nested.{expression_part, statement_part};
 
 use crate::nested::{ExpressionPart, StatementPart};
 use crate::parser::Parser;
+use crate::reader::PartReader;
 use js_grammar::LeftSide;
 use js_reading::{Read, refused};
 use js_tree::{Expression, Place, ReadKind, Statement, Token};
@@ -27,9 +28,13 @@ pub fn read_expression<'a>(
     let parser = Parser {
         alloc,
         end,
-        room: room - 1,
-        expressions: read_expression,
-        statements: read_statement,
+        nested: PartReader {
+            alloc,
+            end,
+            room: room - 1,
+            expressions: read_expression,
+            statements: read_statement,
+        },
     };
     match part {
         ExpressionPart::Value(form) => parser.assignment(form, tokens),
@@ -55,12 +60,16 @@ pub fn read_statement<'a>(
     let parser = Parser {
         alloc,
         end,
-        room: room - 1,
-        expressions: read_expression,
-        statements: read_statement,
+        nested: PartReader {
+            alloc,
+            end,
+            room: room - 1,
+            expressions: read_expression,
+            statements: read_statement,
+        },
     };
     match part {
-        StatementPart::Statement(around) => parser.statement_in(around, tokens),
-        StatementPart::Block(around) => parser.block_in(around, tokens),
+        StatementPart::Statement(around) => parser.statement(around, tokens),
+        StatementPart::Block(around) => parser.block(around, tokens),
     }
 }

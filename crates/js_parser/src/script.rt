@@ -4,7 +4,9 @@ ghost use Rattle.js_grammar.specs.Reading.{Gives};
 ghost use Rattle.js_grammar.specs.Statements.{script_within, script_of_text};
 
 use crate::parser::Parser;
+use crate::reader::PartReader;
 use crate::root::{read_expression, read_statement};
+use crate::statements::Statements;
 use js_lexer::{lex, place_after};
 use js_reading::at_top;
 use js_tree::{Place, ReadAnswer, ReadKind, Script, StatementList, Token};
@@ -28,11 +30,15 @@ pub fn read_tokens(
     let parser = Parser {
         alloc,
         end,
-        room,
-        expressions: read_expression,
-        statements: read_statement,
+        nested: PartReader {
+            alloc,
+            end,
+            room,
+            expressions: read_expression,
+            statements: read_statement,
+        },
     };
-    let (body, rest) = parser.statements(at_top(), tokens)?;
+    let (body, rest) = parser.row(&Statements { around: at_top() }, tokens)?;
     match rest {
         [] => Ok(body),
         [token, ..] => Err(ReadAnswer::Refused(ReadKind::Unexpected, token.place)),

@@ -1,62 +1,146 @@
 // Statements, by plain descent (ECMA-262 5.1, sections 12 and 13).
 ghost use Rattle.js_tree.specs.View.{target_of};
 ghost use Rattle.js_tree.specs.Parts.{start_or_none};
-ghost use Rattle.js_grammar.specs.Readers.{row, next_keyword};
+ghost use Rattle.js_grammar.specs.Readers.{next_keyword};
 ghost use Rattle.js_grammar.specs.Expressions.{a_statement};
 ghost use Rattle.js_grammar.specs.Statements as spec;
 ghost use Rattle.js_reading.specs.Reads.{Reads};
-ghost use Rattle.js_parser.specs.Nested.{ReadsNested, nested};
 
-use crate::nested::{ExpressionPart, StatementPart};
-use crate::parser::Parser;
+use crate::behind::{closed, ended};
+use crate::nested::Nested;
+use crate::parser::{Parser, Row};
 use js_grammar::{Around, Form, Turn};
 use js_lexer::keyword_of;
 use js_reading::{
     Read, alone, before_in, begins_line, broken, closes, continued, ends, expect, expect_while,
     has_part, in_loop, in_switch, inside, is_sign, is_target, next_keyword, next_sign, place_at,
-    read_name, read_semicolon, refused, rest_of, row, semicolon_if, with_default,
+    read_name, refused, rest_of, semicolon_if, with_default,
 };
 use js_tree::{
-    Branch, BranchList, Catch, Clause, ClauseList, Declared, DeclaredList, Expression, ForStart,
-    ForTarget, Keyword, Place, ReadAnswer, ReadKind, Sign, Statement, StatementList, StatementNode,
-    Token, TokenKind,
+    Branch, Catch, Clause, ClauseList, Declared, Expression, ForStart, ForTarget, Keyword, Place,
+    ReadAnswer, ReadKind, Sign, Statement, StatementNode, Token, TokenKind,
 };
-use std::alloc::Global;
 
-impl<
-    E: Fn(Global, Place, u32, ExpressionPart, &[Token]) -> Read<'_, Expression>,
-    S: Fn(Global, Place, u32, StatementPart, &[Token]) -> Read<'_, Statement>,
-> Parser<E, S> {
+/// Statements up to what ends them.
+#[derive(Drop)]
+pub struct Statements {
+    pub around: Around,
+}
+
+impl Row for Statements {
+    type Part = Statement;
+
+    ghost turn = { λ self end d. a_statement d self.around };
+
     #[tactic(auto, unfolding(js_grammar::specs::Expressions::a_statement))]
-    fn a_statement<'a>(&self, around: Around, tokens: &'a [Token]) -> Read<'a, Turn<Statement>>
-        requires { ReadsNested E.Fn S.Fn self.now }
-        ensures { Reads (a_statement (nested self.now) around tokens.now) result }
-    {
+    fn read_turn<'a, N: Nested>(
+        &self,
+        parser: &Parser<N>,
+        tokens: &'a [Token],
+    ) -> Read<'a, Turn<Statement>> {
         if closes(tokens) {
             return Ok((Turn::End, tokens));
         }
-        let (one, rest) = self.statement(around, tokens)?;
+        let (one, rest) = parser.nested.statement(self.around, tokens)?;
         Ok((Turn::More(one), rest))
     }
+}
 
-    /// Statements up to what ends them.
-    pub fn statements<'a>(&self, around: Around, tokens: &'a [Token]) -> Read<'a, StatementList>
-        requires { ReadsNested E.Fn S.Fn self.now }
-        ensures { Reads (row (a_statement (nested self.now) around) tokens.now) result }
-    {
-        row(self.alloc, tokens, |rest| self.a_statement(around, rest))
+/// Declared names and their first values.
+#[derive(Drop)]
+pub struct Declarations {
+    pub form: Form,
+}
+
+impl Row for Declarations {
+    type Part = Declared;
+
+    ghost turn = { λ self end d. spec.a_declared end d self.form };
+
+    /// A declared name, and whether a comma stands behind it.
+    #[tactic(auto, unfolding(js_grammar::specs::Statements::a_declared))]
+    fn read_turn<'a, N: Nested>(
+        &self,
+        parser: &Parser<N>,
+        tokens: &'a [Token],
+    ) -> Read<'a, Turn<Declared>> {
+        let (name, rest) = read_name(parser.alloc, parser.end, tokens)?;
+        let (value, rest) = parser.first_value(self.form, rest)?;
+        let declared = Declared { name, value };
+        match next_sign(rest) {
+            Some(Sign::Comma) => Ok((Turn::More(declared), rest_of(rest))),
+            _ => Ok((Turn::Last(declared), rest)),
+        }
     }
+}
 
+/// The branches of an `if`, each but the first behind `else if`.
+#[derive(Drop)]
+pub struct Branches {
+    pub around: Around,
+}
+
+impl Row for Branches {
+    type Part = Branch;
+
+    ghost turn = { λ self end d. spec.a_branch end d self.around };
+
+    /// A branch, and whether `else if` stands behind it.
+    #[tactic(auto, unfolding(js_grammar::specs::Statements::a_branch))]
+    fn read_turn<'a, N: Nested>(
+        &self,
+        parser: &Parser<N>,
+        tokens: &'a [Token],
+    ) -> Read<'a, Turn<Branch>> {
+        let (one, rest) = parser.one_branch(self.around, tokens)?;
+        let behind = rest_of(rest);
+        match (next_keyword(rest), next_keyword(behind)) {
+            (Some(Keyword::Else), Some(Keyword::If)) => Ok((Turn::More(one), rest_of(behind))),
+            _ => Ok((Turn::Last(one), rest)),
+        }
+    }
+}
+
+/// Clauses of a `switch` that have a test.
+#[derive(Drop)]
+pub struct Cases {
+    pub around: Around,
+}
+
+impl Row for Cases {
+    type Part = Clause;
+
+    ghost turn = { λ self end d. spec.a_case end d self.around };
+
+    /// A clause with a test, where one begins here.
+    #[tactic(auto, unfolding(js_grammar::specs::Statements::a_case))]
+    fn read_turn<'a, N: Nested>(
+        &self,
+        parser: &Parser<N>,
+        tokens: &'a [Token],
+    ) -> Read<'a, Turn<Clause>> {
+        match next_keyword(tokens) {
+            Some(Keyword::Case) => {
+                let (test, rest) = parser.expression(Form::Plain, rest_of(tokens))?;
+                let (clause, rest) = parser.clause_from(self.around, Some(test), rest)?;
+                Ok((Turn::More(clause), rest))
+            }
+            _ => Ok((Turn::End, tokens)),
+        }
+    }
+}
+
+impl<N: Nested> Parser<N> {
     /// An expression as a statement.
     #[tactic(auto, unfolding(js_grammar::specs::Statements::evaluated))]
     fn evaluated<'a>(&self, tokens: &'a [Token]) -> Read<'a, Statement>
-        requires { ReadsNested E.Fn S.Fn self.now }
-        ensures { Reads (spec.evaluated self.now.end (nested self.now) tokens.now) result }
+        requires { N.holds self.now.nested }
+        ensures { Reads (spec.evaluated self.now.end (N.readers self.now.nested) tokens.now) result }
     {
         let place = place_at(self.end, tokens);
         let (value, rest) = self.expression(Form::Plain, tokens)?;
-        let rest = read_semicolon(self.end, rest)?;
-        Ok((Statement::expression(self.alloc, place, value)?, rest))
+        let statement = Statement::expression(self.alloc, place, value)?;
+        ended(self.end, statement, rest)
     }
 
     /// A block behind its `{`.
@@ -67,114 +151,73 @@ impl<
         place: Place,
         tokens: &'a [Token],
     ) -> Read<'a, Statement>
-        requires { ReadsNested E.Fn S.Fn self.now }
-        ensures { Reads (spec.block_from self.now.end (nested self.now) around place tokens.now) result }
+        requires { N.holds self.now.nested }
+        ensures { Reads (spec.block_from self.now.end (N.readers self.now.nested) around place tokens.now) result }
     {
-        let (body, rest) = self.statements(inside(around), tokens)?;
-        let rest = expect(self.end, Sign::RightBrace, rest)?;
+        let statements = Statements {
+            around: inside(around),
+        };
+        let (body, rest) = self.row(&statements, tokens)?;
         let node = StatementNode::Block(body);
-        Ok((Statement { place, node }, rest))
+        closed(self.end, Sign::RightBrace, Statement { place, node }, rest)
     }
 
     #[tactic(auto, unfolding(js_grammar::specs::Statements::block))]
-    pub fn block_in<'a>(&self, around: Around, tokens: &'a [Token]) -> Read<'a, Statement>
-        requires { ReadsNested E.Fn S.Fn self.now }
-        ensures { Reads (spec.block self.now.end (nested self.now) around tokens.now) result }
+    pub fn block<'a>(&self, around: Around, tokens: &'a [Token]) -> Read<'a, Statement>
+        requires { N.holds self.now.nested }
+        ensures { Reads (spec.block self.now.end (N.readers self.now.nested) around tokens.now) result }
     {
         let place = place_at(self.end, tokens);
         let rest = expect(self.end, Sign::LeftBrace, tokens)?;
         self.block_from(around, place, rest)
     }
 
+    /// The first value of a declared name, where it has one.
     #[tactic(auto, unfolding(js_grammar::specs::Statements::first_value))]
     fn first_value<'a>(&self, form: Form, tokens: &'a [Token]) -> Read<'a, Option<Expression>>
-        requires { ReadsNested E.Fn S.Fn self.now }
-        ensures { Reads (spec.first_value self.now.end (nested self.now) form tokens.now) result }
+        requires { N.holds self.now.nested }
+        ensures { Reads (spec.first_value self.now.end (N.readers self.now.nested) form tokens.now) result }
     {
         match next_sign(tokens) {
             Some(Sign::Assign) => {
-                let (value, rest) = self.value(form, rest_of(tokens))?;
+                let (value, rest) = self.nested.value(form, rest_of(tokens))?;
                 Ok((Some(value), rest))
             }
             _ => Ok((None, tokens)),
         }
     }
 
-    /// A declared name, and whether a comma stands behind it.
-    #[tactic(auto, unfolding(js_grammar::specs::Statements::a_declared))]
-    fn a_declared<'a>(&self, form: Form, tokens: &'a [Token]) -> Read<'a, Turn<Declared>>
-        requires { ReadsNested E.Fn S.Fn self.now }
-        ensures { Reads (spec.a_declared self.now.end (nested self.now) form tokens.now) result }
-    {
-        let (name, rest) = read_name(self.alloc, self.end, tokens)?;
-        let (value, rest) = self.first_value(form, rest)?;
-        let declared = Declared { name, value };
-        match next_sign(rest) {
-            Some(Sign::Comma) => Ok((Turn::More(declared), rest_of(rest))),
-            _ => Ok((Turn::Last(declared), rest)),
-        }
-    }
-
-    fn declared<'a>(&self, form: Form, tokens: &'a [Token]) -> Read<'a, DeclaredList>
-        requires { ReadsNested E.Fn S.Fn self.now }
-        ensures { Reads (row (spec.a_declared self.now.end (nested self.now) form) tokens.now) result }
-    {
-        row(self.alloc, tokens, |rest| self.a_declared(form, rest))
-    }
-
     /// `var` behind its word.
     #[tactic(auto, unfolding(js_grammar::specs::Statements::var_statement))]
     fn var_statement<'a>(&self, place: Place, tokens: &'a [Token]) -> Read<'a, Statement>
-        requires { ReadsNested E.Fn S.Fn self.now }
-        ensures { Reads (spec.var_statement self.now.end (nested self.now) place tokens.now) result }
+        requires { N.holds self.now.nested }
+        ensures { Reads (spec.var_statement self.now.end (N.readers self.now.nested) place tokens.now) result }
     {
-        let (names, rest) = self.declared(Form::Plain, tokens)?;
-        let rest = read_semicolon(self.end, rest)?;
+        let (names, rest) = self.row(&Declarations { form: Form::Plain }, tokens)?;
         let node = StatementNode::Var(names);
-        Ok((Statement { place, node }, rest))
+        ended(self.end, Statement { place, node }, rest)
     }
 
     /// A condition in brackets and what is done where it holds.
     #[tactic(auto, unfolding(js_grammar::specs::Statements::one_branch))]
     fn one_branch<'a>(&self, around: Around, tokens: &'a [Token]) -> Read<'a, Branch>
-        requires { ReadsNested E.Fn S.Fn self.now }
-        ensures { Reads (spec.one_branch self.now.end (nested self.now) around tokens.now) result }
+        requires { N.holds self.now.nested }
+        ensures { Reads (spec.one_branch self.now.end (N.readers self.now.nested) around tokens.now) result }
     {
         let (condition, rest) = self.in_parentheses(tokens)?;
-        let (body, rest) = self.statement(inside(around), rest)?;
+        let (body, rest) = self.nested.statement(inside(around), rest)?;
         Ok((Branch { condition, body }, rest))
-    }
-
-    /// A branch, and whether `else if` stands behind it.
-    #[tactic(auto, unfolding(js_grammar::specs::Statements::a_branch))]
-    fn a_branch<'a>(&self, around: Around, tokens: &'a [Token]) -> Read<'a, Turn<Branch>>
-        requires { ReadsNested E.Fn S.Fn self.now }
-        ensures { Reads (spec.a_branch self.now.end (nested self.now) around tokens.now) result }
-    {
-        let (one, rest) = self.one_branch(around, tokens)?;
-        let behind = rest_of(rest);
-        match (next_keyword(rest), next_keyword(behind)) {
-            (Some(Keyword::Else), Some(Keyword::If)) => Ok((Turn::More(one), rest_of(behind))),
-            _ => Ok((Turn::Last(one), rest)),
-        }
-    }
-
-    fn branches<'a>(&self, around: Around, tokens: &'a [Token]) -> Read<'a, BranchList>
-        requires { ReadsNested E.Fn S.Fn self.now }
-        ensures { Reads (row (spec.a_branch self.now.end (nested self.now) around) tokens.now) result }
-    {
-        row(self.alloc, tokens, |rest| self.a_branch(around, rest))
     }
 
     /// What is done where no condition holds.
     #[tactic(auto, unfolding(js_grammar::specs::Statements::otherwise))]
     fn otherwise<'a>(&self, around: Around, tokens: &'a [Token]) -> Read<'a, Option<Statement>>
-        requires { ReadsNested E.Fn S.Fn self.now }
-        ensures { Reads (spec.otherwise self.now.end (nested self.now) around tokens.now) result }
+        requires { N.holds self.now.nested }
+        ensures { Reads (spec.otherwise self.now.end (N.readers self.now.nested) around tokens.now) result }
     {
         match next_keyword(tokens) {
             Some(Keyword::Else) => {
-                let (one, rest) = self.statement(inside(around), rest_of(tokens))?;
+                let (one, rest) = self.nested.statement(inside(around), rest_of(tokens))?;
                 Ok((Some(one), rest))
             }
             _ => Ok((None, tokens)),
@@ -189,10 +232,10 @@ impl<
         place: Place,
         tokens: &'a [Token],
     ) -> Read<'a, Statement>
-        requires { ReadsNested E.Fn S.Fn self.now }
-        ensures { Reads (spec.if_statement self.now.end (nested self.now) around place tokens.now) result }
+        requires { N.holds self.now.nested }
+        ensures { Reads (spec.if_statement self.now.end (N.readers self.now.nested) around place tokens.now) result }
     {
-        let (branches, rest) = self.branches(around, tokens)?;
+        let (branches, rest) = self.row(&Branches { around }, tokens)?;
         let (last, rest) = self.otherwise(around, rest)?;
         Ok((Statement::if_else(self.alloc, place, branches, last)?, rest))
     }
@@ -205,10 +248,10 @@ impl<
         place: Place,
         tokens: &'a [Token],
     ) -> Read<'a, Statement>
-        requires { ReadsNested E.Fn S.Fn self.now }
-        ensures { Reads (spec.do_statement self.now.end (nested self.now) around place tokens.now) result }
+        requires { N.holds self.now.nested }
+        ensures { Reads (spec.do_statement self.now.end (N.readers self.now.nested) around place tokens.now) result }
     {
-        let (body, rest) = self.statement(in_loop(around), tokens)?;
+        let (body, rest) = self.nested.statement(in_loop(around), tokens)?;
         let rest = expect_while(self.end, rest)?;
         let (condition, rest) = self.in_parentheses(rest)?;
         Ok((
@@ -225,11 +268,11 @@ impl<
         place: Place,
         tokens: &'a [Token],
     ) -> Read<'a, Statement>
-        requires { ReadsNested E.Fn S.Fn self.now }
-        ensures { Reads (spec.while_statement self.now.end (nested self.now) around place tokens.now) result }
+        requires { N.holds self.now.nested }
+        ensures { Reads (spec.while_statement self.now.end (N.readers self.now.nested) around place tokens.now) result }
     {
         let (condition, rest) = self.in_parentheses(tokens)?;
-        let (body, rest) = self.statement(in_loop(around), rest)?;
+        let (body, rest) = self.nested.statement(in_loop(around), rest)?;
         Ok((
             Statement::while_loop(self.alloc, place, condition, body)?,
             rest,
@@ -243,15 +286,14 @@ impl<
         close: Sign,
         tokens: &'a [Token],
     ) -> Read<'a, Option<Expression>>
-        requires { ReadsNested E.Fn S.Fn self.now }
-        ensures { Reads (spec.optional_expression self.now.end (nested self.now) close tokens.now) result }
+        requires { N.holds self.now.nested }
+        ensures { Reads (spec.optional_expression self.now.end (N.readers self.now.nested) close tokens.now) result }
     {
         if is_sign(close, next_sign(tokens)) {
             return Ok((None, rest_of(tokens)));
         }
         let (value, rest) = self.expression(Form::NoIn, tokens)?;
-        let rest = expect(self.end, close, rest)?;
-        Ok((Some(value), rest))
+        closed(self.end, close, Some(value), rest)
     }
 
     /// A `for` from its first semicolon on.
@@ -263,13 +305,13 @@ impl<
         start: Option<ForStart>,
         tokens: &'a [Token],
     ) -> Read<'a, Statement>
-        requires { ReadsNested E.Fn S.Fn self.now }
-        ensures { Reads (spec.for_from self.now.end (nested self.now) around place (start_or_none start) tokens.now) result }
+        requires { N.holds self.now.nested }
+        ensures { Reads (spec.for_from self.now.end (N.readers self.now.nested) around place (start_or_none start) tokens.now) result }
     {
         let rest = expect(self.end, Sign::Semicolon, tokens)?;
         let (condition, rest) = self.optional_expression(Sign::Semicolon, rest)?;
         let (step, rest) = self.optional_expression(Sign::RightParenthesis, rest)?;
-        let (body, rest) = self.statement(in_loop(around), rest)?;
+        let (body, rest) = self.nested.statement(in_loop(around), rest)?;
         Ok((
             Statement::for_loop(self.alloc, place, start, condition, step, body)?,
             rest,
@@ -285,12 +327,12 @@ impl<
         target: ForTarget,
         tokens: &'a [Token],
     ) -> Read<'a, Statement>
-        requires { ReadsNested E.Fn S.Fn self.now }
-        ensures { Reads (spec.for_in_from self.now.end (nested self.now) around place (target_of target) tokens.now) result }
+        requires { N.holds self.now.nested }
+        ensures { Reads (spec.for_in_from self.now.end (N.readers self.now.nested) around place (target_of target) tokens.now) result }
     {
         let (object, rest) = self.expression(Form::NoIn, tokens)?;
         let rest = expect(self.end, Sign::RightParenthesis, rest)?;
-        let (body, rest) = self.statement(in_loop(around), rest)?;
+        let (body, rest) = self.nested.statement(in_loop(around), rest)?;
         Ok((
             Statement::for_in(self.alloc, place, target, object, body)?,
             rest,
@@ -306,10 +348,10 @@ impl<
         var_place: Place,
         tokens: &'a [Token],
     ) -> Read<'a, Statement>
-        requires { ReadsNested E.Fn S.Fn self.now }
-        ensures { Reads (spec.for_var self.now.end (nested self.now) around place var_place tokens.now) result }
+        requires { N.holds self.now.nested }
+        ensures { Reads (spec.for_var self.now.end (N.readers self.now.nested) around place var_place tokens.now) result }
     {
-        let (names, rest) = self.declared(Form::NoIn, tokens)?;
+        let (names, rest) = self.row(&Declarations { form: Form::NoIn }, tokens)?;
         match before_in(next_keyword(rest), names) {
             Ok(name) => {
                 let target = ForTarget::Declared(name);
@@ -330,8 +372,8 @@ impl<
         place: Place,
         tokens: &'a [Token],
     ) -> Read<'a, Statement>
-        requires { ReadsNested E.Fn S.Fn self.now }
-        ensures { Reads (spec.for_value self.now.end (nested self.now) around place tokens.now) result }
+        requires { N.holds self.now.nested }
+        ensures { Reads (spec.for_value self.now.end (N.readers self.now.nested) around place tokens.now) result }
     {
         let (value, rest) = self.expression(Form::NoIn, tokens)?;
         let Some(Keyword::In) = next_keyword(rest) else {
@@ -347,8 +389,8 @@ impl<
 
     /// A `for` whose header begins with `var` or an expression.
     fn for_word<'a>(&self, around: Around, place: Place, tokens: &'a [Token]) -> Read<'a, Statement>
-        requires { ReadsNested E.Fn S.Fn self.now }
-        ensures { Reads (spec.for_word self.now.end (nested self.now) around place (next_keyword tokens.now) tokens.now) result }
+        requires { N.holds self.now.nested }
+        ensures { Reads (spec.for_word self.now.end (N.readers self.now.nested) around place (next_keyword tokens.now) tokens.now) result }
     {
         match next_keyword(tokens) {
             Some(Keyword::Var) => {
@@ -367,8 +409,8 @@ impl<
         place: Place,
         tokens: &'a [Token],
     ) -> Read<'a, Statement>
-        requires { ReadsNested E.Fn S.Fn self.now }
-        ensures { Reads (spec.for_statement self.now.end (nested self.now) around place tokens.now) result }
+        requires { N.holds self.now.nested }
+        ensures { Reads (spec.for_statement self.now.end (N.readers self.now.nested) around place tokens.now) result }
     {
         let rest = expect(self.end, Sign::LeftParenthesis, tokens)?;
         match next_sign(rest) {
@@ -385,8 +427,8 @@ impl<
         place: Place,
         tokens: &'a [Token],
     ) -> Read<'a, Statement>
-        requires { ReadsNested E.Fn S.Fn self.now }
-        ensures { Reads (spec.return_statement self.now.end (nested self.now) around place tokens.now) result }
+        requires { N.holds self.now.nested }
+        ensures { Reads (spec.return_statement self.now.end (N.readers self.now.nested) around place tokens.now) result }
     {
         if !around.in_function {
             return Err(ReadAnswer::Refused(ReadKind::Unexpected, place));
@@ -396,25 +438,22 @@ impl<
             return alone(self.end, statement, tokens);
         }
         let (value, rest) = self.expression(Form::Plain, tokens)?;
-        let rest = read_semicolon(self.end, rest)?;
-        Ok((
-            Statement::return_value(self.alloc, place, Some(value))?,
-            rest,
-        ))
+        let statement = Statement::return_value(self.alloc, place, Some(value))?;
+        ended(self.end, statement, rest)
     }
 
     /// `throw` behind its word.
     #[tactic(auto, unfolding(js_grammar::specs::Statements::throw_statement))]
     fn throw_statement<'a>(&self, place: Place, tokens: &'a [Token]) -> Read<'a, Statement>
-        requires { ReadsNested E.Fn S.Fn self.now }
-        ensures { Reads (spec.throw_statement self.now.end (nested self.now) place tokens.now) result }
+        requires { N.holds self.now.nested }
+        ensures { Reads (spec.throw_statement self.now.end (N.readers self.now.nested) place tokens.now) result }
     {
         if begins_line(tokens) {
             return Err(refused(self.end, ReadKind::Unexpected, tokens));
         }
         let (value, rest) = self.expression(Form::Plain, tokens)?;
-        let rest = read_semicolon(self.end, rest)?;
-        Ok((Statement::throw(self.alloc, place, value)?, rest))
+        let statement = Statement::throw(self.alloc, place, value)?;
+        ended(self.end, statement, rest)
     }
 
     /// A clause of a `switch` from its colon on.
@@ -425,48 +464,25 @@ impl<
         test: Option<Expression>,
         tokens: &'a [Token],
     ) -> Read<'a, Clause>
-        requires { ReadsNested E.Fn S.Fn self.now }
-        ensures { Reads (spec.clause_from self.now.end (nested self.now) around test tokens.now) result }
+        requires { N.holds self.now.nested }
+        ensures { Reads (spec.clause_from self.now.end (N.readers self.now.nested) around test tokens.now) result }
     {
         let rest = expect(self.end, Sign::Colon, tokens)?;
-        let (body, rest) = self.statements(around, rest)?;
+        let (body, rest) = self.row(&Statements { around }, rest)?;
         Ok((Clause { test, body }, rest))
-    }
-
-    /// A clause with a test, where one begins here.
-    #[tactic(auto, unfolding(js_grammar::specs::Statements::a_case))]
-    fn a_case<'a>(&self, around: Around, tokens: &'a [Token]) -> Read<'a, Turn<Clause>>
-        requires { ReadsNested E.Fn S.Fn self.now }
-        ensures { Reads (spec.a_case self.now.end (nested self.now) around tokens.now) result }
-    {
-        match next_keyword(tokens) {
-            Some(Keyword::Case) => {
-                let (test, rest) = self.expression(Form::Plain, rest_of(tokens))?;
-                let (clause, rest) = self.clause_from(around, Some(test), rest)?;
-                Ok((Turn::More(clause), rest))
-            }
-            _ => Ok((Turn::End, tokens)),
-        }
-    }
-
-    fn cases<'a>(&self, around: Around, tokens: &'a [Token]) -> Read<'a, ClauseList>
-        requires { ReadsNested E.Fn S.Fn self.now }
-        ensures { Reads (row (spec.a_case self.now.end (nested self.now) around) tokens.now) result }
-    {
-        row(self.alloc, tokens, |rest| self.a_case(around, rest))
     }
 
     /// The clauses of a `switch`, at most one of them `default`.
     #[tactic(auto, unfolding(js_grammar::specs::Statements::clauses))]
     fn clauses<'a>(&self, around: Around, tokens: &'a [Token]) -> Read<'a, ClauseList>
-        requires { ReadsNested E.Fn S.Fn self.now }
-        ensures { Reads (spec.clauses self.now.end (nested self.now) around tokens.now) result }
+        requires { N.holds self.now.nested }
+        ensures { Reads (spec.clauses self.now.end (N.readers self.now.nested) around tokens.now) result }
     {
-        let (cases, rest) = self.cases(around, tokens)?;
+        let (cases, rest) = self.row(&Cases { around }, tokens)?;
         match next_keyword(rest) {
             Some(Keyword::Default) => {
                 let (default, rest) = self.clause_from(around, None, rest_of(rest))?;
-                let (others, rest) = self.cases(around, rest)?;
+                let (others, rest) = self.row(&Cases { around }, rest)?;
                 Ok((with_default(cases, default, others)?, rest))
             }
             _ => Ok((cases, rest)),
@@ -481,28 +497,28 @@ impl<
         place: Place,
         tokens: &'a [Token],
     ) -> Read<'a, Statement>
-        requires { ReadsNested E.Fn S.Fn self.now }
-        ensures { Reads (spec.switch_statement self.now.end (nested self.now) around place tokens.now) result }
+        requires { N.holds self.now.nested }
+        ensures { Reads (spec.switch_statement self.now.end (N.readers self.now.nested) around place tokens.now) result }
     {
         let (value, rest) = self.in_parentheses(tokens)?;
         let rest = expect(self.end, Sign::LeftBrace, rest)?;
         let (clauses, rest) = self.clauses(in_switch(around), rest)?;
-        let rest = expect(self.end, Sign::RightBrace, rest)?;
-        Ok((Statement::switch(self.alloc, place, value, clauses)?, rest))
+        let statement = Statement::switch(self.alloc, place, value, clauses)?;
+        closed(self.end, Sign::RightBrace, statement, rest)
     }
 
     /// The handler of a `try`, where it has one.
     #[tactic(auto, unfolding(js_grammar::specs::Statements::catch_part))]
     fn catch_part<'a>(&self, around: Around, tokens: &'a [Token]) -> Read<'a, Option<Catch>>
-        requires { ReadsNested E.Fn S.Fn self.now }
-        ensures { Reads (spec.catch_part self.now.end (nested self.now) around tokens.now) result }
+        requires { N.holds self.now.nested }
+        ensures { Reads (spec.catch_part self.now.end (N.readers self.now.nested) around tokens.now) result }
     {
         match next_keyword(tokens) {
             Some(Keyword::Catch) => {
                 let rest = expect(self.end, Sign::LeftParenthesis, rest_of(tokens))?;
                 let (name, rest) = read_name(self.alloc, self.end, rest)?;
                 let rest = expect(self.end, Sign::RightParenthesis, rest)?;
-                let (body, rest) = self.block(inside(around), rest)?;
+                let (body, rest) = self.nested.block(inside(around), rest)?;
                 Ok((Some(Catch { name, body }), rest))
             }
             _ => Ok((None, tokens)),
@@ -512,12 +528,12 @@ impl<
     /// The last block of a `try`, where it has one.
     #[tactic(auto, unfolding(js_grammar::specs::Statements::finally_part))]
     fn finally_part<'a>(&self, around: Around, tokens: &'a [Token]) -> Read<'a, Option<Statement>>
-        requires { ReadsNested E.Fn S.Fn self.now }
-        ensures { Reads (spec.finally_part self.now.end (nested self.now) around tokens.now) result }
+        requires { N.holds self.now.nested }
+        ensures { Reads (spec.finally_part self.now.end (N.readers self.now.nested) around tokens.now) result }
     {
         match next_keyword(tokens) {
             Some(Keyword::Finally) => {
-                let (body, rest) = self.block(inside(around), rest_of(tokens))?;
+                let (body, rest) = self.nested.block(inside(around), rest_of(tokens))?;
                 Ok((Some(body), rest))
             }
             _ => Ok((None, tokens)),
@@ -532,10 +548,10 @@ impl<
         place: Place,
         tokens: &'a [Token],
     ) -> Read<'a, Statement>
-        requires { ReadsNested E.Fn S.Fn self.now }
-        ensures { Reads (spec.try_statement self.now.end (nested self.now) around place tokens.now) result }
+        requires { N.holds self.now.nested }
+        ensures { Reads (spec.try_statement self.now.end (N.readers self.now.nested) around place tokens.now) result }
     {
-        let (body, rest) = self.block(inside(around), tokens)?;
+        let (body, rest) = self.nested.block(inside(around), tokens)?;
         let (catch, rest) = self.catch_part(around, rest)?;
         let (last, rest) = self.finally_part(around, rest)?;
         if !has_part(&catch, &last) {
@@ -555,8 +571,8 @@ impl<
         place: Place,
         tokens: &'a [Token],
     ) -> Read<'a, Statement>
-        requires { ReadsNested E.Fn S.Fn self.now }
-        ensures { Reads (spec.function_statement self.now.end (nested self.now) around place tokens.now) result }
+        requires { N.holds self.now.nested }
+        ensures { Reads (spec.function_statement self.now.end (N.readers self.now.nested) around place tokens.now) result }
     {
         let (name, rest) = read_name(self.alloc, self.end, tokens)?;
         if !around.direct {
@@ -577,8 +593,8 @@ impl<
         place: Place,
         tokens: &'a [Token],
     ) -> Read<'a, Statement>
-        requires { ReadsNested E.Fn S.Fn self.now }
-        ensures { Reads (spec.word_statement self.now.end (nested self.now) around keyword place tokens.now) result }
+        requires { N.holds self.now.nested }
+        ensures { Reads (spec.word_statement self.now.end (N.readers self.now.nested) around keyword place tokens.now) result }
     {
         let rest = rest_of(tokens);
         match keyword {
@@ -617,9 +633,9 @@ impl<
     }
 
     #[tactic(auto, unfolding(js_grammar::specs::Statements::statement))]
-    pub fn statement_in<'a>(&self, around: Around, tokens: &'a [Token]) -> Read<'a, Statement>
-        requires { ReadsNested E.Fn S.Fn self.now }
-        ensures { Reads (spec.statement self.now.end (nested self.now) around tokens.now) result }
+    pub fn statement<'a>(&self, around: Around, tokens: &'a [Token]) -> Read<'a, Statement>
+        requires { N.holds self.now.nested }
+        ensures { Reads (spec.statement self.now.end (N.readers self.now.nested) around tokens.now) result }
     {
         let [token, rest @ ..] = tokens else {
             return Err(refused(self.end, ReadKind::Unexpected, tokens));

@@ -1,6 +1,5 @@
 use Rattle.std.proofs.Common.{◌≡◌, ◌+◌, ◌*◌, Ok}
 use Rattle.js_grammar.specs.Expressions.{level}
-use Rattle.js_parser.specs.Nested.{nested}
 use Rattle.js_parser.proofs.parser.+levels.Given as goal
 
 abbrev pub decreases-Parser::level : goal.decreases-Parser::level
@@ -16,4 +15,4 @@ abbrev pub decreases-Parser::operands : goal.decreases-Parser::operands
 decreases-Parser::operands g l = 4 * l.level + 3
 
 abbrev pub invariant-Parser::level-loop-below : goal.invariant-Parser::level-loop-below
-invariant-Parser::level-loop-below g l = level l.self.end (nested l.self) l.form l.below l.tokens ≡ Ok (l.value, l.rest)
+invariant-Parser::level-loop-below g l = level l.self.end (g.N.Nested.readers l.self.nested) l.form l.below l.tokens ≡ Ok (l.value, l.rest)

@@ -28,9 +28,9 @@ read_statement-returns-then-room-eq0 t c =
 pub read_statement-returns-in-Statement : goal.read_statement-returns-in-Statement
 read_statement-returns-in-Statement t c =
     let some : 0 < c.args.room = omega arith in
-    rw (c.in-Statement.is, deep.statement c.args.end c.args.room c.args.tokens.now some c.in-Statement.around) c.statement_in.ensures
+    rw (c.in-Statement.is, deep.statement c.args.end c.args.room c.args.tokens.now some c.in-Statement.around) c.statement.ensures
 
 pub read_statement-returns-in-Block : goal.read_statement-returns-in-Block
 read_statement-returns-in-Block t c =
     let some : 0 < c.args.room = omega arith in
-    rw (c.in-Block.is, deep.block c.args.end c.args.room c.args.tokens.now some c.in-Block.around) c.block_in.ensures
+    rw (c.in-Block.is, deep.block c.args.end c.args.room c.args.tokens.now some c.in-Block.around) c.block.ensures
