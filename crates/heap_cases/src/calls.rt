@@ -140,7 +140,7 @@ impl Bench {
             }
             "cells" => Ok(Answer::Count(self.heap.cells())),
             "spend" => self.spend(call),
-            "put" | "put-index" | "define" | "write" => self.write(alloc, call),
+            "put" | "put-index" | "define" | "define-index" | "write" => self.write(alloc, call),
             _ => self.ask(alloc, call),
         }
     }
@@ -185,6 +185,7 @@ impl Bench {
         match call.name.as_str() {
             "put" => self.heap.put(alloc, object, &call.property, value)?,
             "put-index" => self.heap.put_index(alloc, object, call.slot, value)?,
+            "define-index" => self.heap.define_index(alloc, object, call.slot, value)?,
             "write" => self.heap.write_slot(scope, call.slot, value),
             _ => self
                 .heap

@@ -14,7 +14,7 @@ ghost use Rattle.heap_objects.specs.Object.{found_property, marks_if};
 ghost use Rattle.heap_objects.specs.TableRows.{entries_of, row_read, row_property};
 ghost use Rattle.heap_objects.specs.Layers.{layers, left_of, AreMarked};
 
-use crate::marks::Marks;
+use crate::marks::{Marks, marks_of};
 use crate::properties::Properties;
 use crate::table_row::{TableRow, found_in_row, marks_of_row};
 use crate::table_rows::{MOST_ROWS, TableRows};
@@ -105,10 +105,7 @@ impl Layered {
         ensures { IfOk result (λ marks. marks ≡ marks_if (property_at self.now (decimal index))) }
     {
         if let Some(property) = self.element(index) {
-            return Ok(Some(Marks {
-                listed: property.listed,
-                deletable: property.deletable,
-            }));
+            return Ok(Some(marks_of(property)));
         }
         if self.is_next(index) {
             return Ok(None);
@@ -121,10 +118,7 @@ impl Layered {
         ensures { result ≡ marks_if (property_at self.now name.now) }
     {
         if let Some(property) = self.own.get(name) {
-            return Some(Marks {
-                listed: property.listed,
-                deletable: property.deletable,
-            });
+            return Some(marks_of(property));
         }
         match row_in(&self.table, name) {
             None => None,

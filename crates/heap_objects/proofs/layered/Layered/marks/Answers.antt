@@ -8,7 +8,8 @@ use Rattle.heap_objects.proofs.layered.Layered.marks.Goals as goal
 
 pub returns-in-Some : goal.returns-in-Some
 returns-in-Some c =
-    ap marks_if (in_own (left_of c.self.inside.table) c.self.inside.own c.args.self.now c.args.name.now c.in-Some.property.now
+    ap (λ m. Some m) c.marks_of.ensures
+    ∙ ap marks_if (in_own (left_of c.self.inside.table) c.self.inside.own c.args.self.now c.args.name.now c.in-Some.property.now
     c.self.invariant.1 c.self.view_is c.in-Some.ensures)
 
 pub returns-in-None : goal.returns-in-None

@@ -1,4 +1,4 @@
-use Rattle.std.proofs.Common.{◌∙◌, ◌++◌, List, ℕ, sym, ap, subst, ⊎_elim}
+use Rattle.std.proofs.Common.{◌++◌, List, ℕ, sym, ap, subst, ⊎_elim}
 use Rattle.std.specs.Fmt.{decimal}
 use Rattle.heap_values.specs.declared.property.Property.{Property}
 use Rattle.heap_elements.specs.Properties.{property_at, with_property}
