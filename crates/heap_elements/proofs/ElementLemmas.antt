@@ -57,13 +57,14 @@ last_is_highest (s ∷ t ∷ slots) from n (suc k) rising last below =
     let rest = last_is_highest (t ∷ slots) (suc s.0) n k rising.2 (omega arith) below in
     (omega (arith, rising.2.0, rest.0), rest)
 
+all_below : (slots : Slots) (n : ℕ) → AreRising 0 slots → is_below (slice_get slots (length slots - 1)) n ≡ true → AreBelow slots n
+all_below [] n rising below = tt
+all_below (s ∷ slots) n rising below = last_is_highest (s ∷ slots) 0 n (length (s ∷ slots) - 1) rising (omega arith) below
+
 pub below_next : (slots : Slots) (n : ℕ) → AreRising 0 slots → is_next slots n ≡ true → AreBelow slots n × (n < 4294967295)
-below_next [] n rising next = (tt, grind (arith, nat_tests))
-below_next (s ∷ slots) n rising next =
-    let last = length (s ∷ slots) - 1 in
-    let is_last : last ≡ length slots = omega arith in
-    let both = split (is_below (slice_get (s ∷ slots) last) n) (nat_lt n 4294967295) next in
-    (last_is_highest (s ∷ slots) 0 n last rising (omega arith) both.0, grind (arith, nat_tests, both.1))
+below_next slots n rising next =
+    let both = split (is_below (slice_get slots (length slots - 1)) n) (nat_lt n 4294967295) next in
+    (all_below slots n rising both.0, grind (arith, nat_tests, both.1))
   where
     split : (a b : Bool) → (a && b) ≡ true → (a ≡ true) × (b ≡ true)
     split true b is = (refl, is)
@@ -343,6 +344,9 @@ module _ (slots : Slots) (rising : AreRising 0 slots) where
         let after : at ≤ k → n < index_in slots k = λ le. ranked _ n _ (sym ((parted (order_rises n)).1 k (0, None) le below)) in
         grind (arith, before, after)));
   }
+
+  pub nothing_behind : (n : ℕ) → n < 4294967296 → is_below (slice_get slots (length slots - 1)) n ≡ true → property_at (elements_of slots) (decimal n) ≡ None
+  nothing_behind n small below = none_lacked slots 0 n rising small (LacksIndex-below slots n (all_below slots n rising below))
 
   pub nothing_next : (n : ℕ) → is_next slots n ≡ true → property_at (elements_of slots) (decimal n) ≡ None
   nothing_next n next =

@@ -191,6 +191,9 @@ impl Elements {
         if has_index(&self.slots, at, index) {
             return Some(at);
         }
+        if ends_below(&self.slots, index) {
+            return None;
+        }
         searched(&self.slots, index)
     }
 
