@@ -19,7 +19,7 @@ use Rattle.heap_values.specs.declared.property.Property.{Property}
 use Rattle.heap_elements.specs.Names.{array_index}
 use Rattle.heap_elements.specs.Properties.{property_at, with_property, without_property, index_put, indexed_into, name_unless_index, other_names, listed_names_of}
 use Rattle.heap_elements.specs.Places.{NamesDiffer}
-use Rattle.heap_elements.specs.Elements.{Slots, AreRising, elements_of, has_index, is_below, is_next, takes, HasIndex, is_filled, is_gap, listed_numerals}
+use Rattle.heap_elements.specs.Elements.{Slots, AreRising, elements_of, has_index, is_below, is_past_last, takes, HasIndex, is_filled, is_gap, listed_numerals}
 use Rattle.heap_elements.proofs.RowLemmas.{same_name, with_property-missing, without_property-missing}
 use Rattle.heap_elements.proofs.IndexLemmas.{array_index-decimal, decimal-array_index, numerals_differ, same_numeral}
 
@@ -61,8 +61,8 @@ all_below : (slots : Slots) (n : ℕ) → AreRising 0 slots → is_below (slice_
 all_below [] n rising below = tt
 all_below (s ∷ slots) n rising below = last_is_highest (s ∷ slots) 0 n (length (s ∷ slots) - 1) rising (omega arith) below
 
-pub below_next : (slots : Slots) (n : ℕ) → AreRising 0 slots → is_next slots n ≡ true → AreBelow slots n × (n < 4294967295)
-below_next slots n rising next =
+pub below_past : (slots : Slots) (n : ℕ) → AreRising 0 slots → is_past_last slots n ≡ true → AreBelow slots n × (n < 4294967295)
+below_past slots n rising next =
     let both = split (is_below (slice_get slots (length slots - 1)) n) (nat_lt n 4294967295) next in
     (all_below slots n rising both.0, grind (arith, nat_tests, both.1))
   where
@@ -348,9 +348,9 @@ module _ (slots : Slots) (rising : AreRising 0 slots) where
   pub nothing_behind : (n : ℕ) → n < 4294967296 → is_below (slice_get slots (length slots - 1)) n ≡ true → property_at (elements_of slots) (decimal n) ≡ None
   nothing_behind n small below = none_lacked slots 0 n rising small (LacksIndex-below slots n (all_below slots n rising below))
 
-  pub nothing_next : (n : ℕ) → is_next slots n ≡ true → property_at (elements_of slots) (decimal n) ≡ None
-  nothing_next n next =
-      let behind = below_next slots n rising next in
+  pub nothing_past : (n : ℕ) → is_past_last slots n ≡ true → property_at (elements_of slots) (decimal n) ≡ None
+  nothing_past n next =
+      let behind = below_past slots n rising next in
       none_lacked slots 0 n rising (omega (arith, behind.1)) (LacksIndex-below slots n behind.0)
 
   stands_in : (at n : ℕ) (o : Option Property) → slice_get slots at ≡ Some (n, o) → property_at (elements_of slots) (decimal n) ≡ o
@@ -372,8 +372,8 @@ module _ (slots : Slots) (rising : AreRising 0 slots) where
       → elements_of (set slots at (n, Some p)) ≡ with_property (elements_of slots) (decimal n) p
   element_written at n (Some q) p is taken = written_at slots 0 at n p q rising is
   element_written at n None p is taken =
-      let next : is_next slots n ≡ true = ap (λ o. is_some o || is_next slots n) (sym (stands_in at n None is)) ∙ taken in
-      absurd (not_below slots at (below_next slots n rising next).0 is)
+      let next : is_past_last slots n ≡ true = ap (λ o. is_some o || is_past_last slots n) (sym (stands_in at n None is)) ∙ taken in
+      absurd (not_below slots at (below_past slots n rising next).0 is)
     where
       not_below : (ss : Slots) (k : ℕ) → AreBelow ss n → slice_get ss k ≡ Some (n, None) → ⊥
       not_below [] k below there = absurd (cc)
@@ -383,8 +383,8 @@ module _ (slots : Slots) (rising : AreRising 0 slots) where
   pub element_appended : (n : ℕ) (p : Property) → property_at (elements_of slots) (decimal n) ≡ None → takes slots n ≡ true
       → AreRising 0 (slots ++ (n, Some p) ∷ []) × (elements_of (slots ++ (n, Some p) ∷ []) ≡ with_property (elements_of slots) (decimal n) p)
   element_appended n p none taken =
-      let next : is_next slots n ≡ true = ap (λ o. is_some o || is_next slots n) (sym none) ∙ taken in
-      let behind = below_next slots n rising next in (
+      let next : is_past_last slots n ≡ true = ap (λ o. is_some o || is_past_last slots n) (sym none) ∙ taken in
+      let behind = below_past slots n rising next in (
         AreRising-append slots 0 n (Some p) rising behind.0 (omega arith) behind.1,
         elements_of-append slots n p ∙ sym (with_property-missing (elements_of slots) (decimal n) p none),
       )

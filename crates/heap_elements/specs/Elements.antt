@@ -31,12 +31,12 @@ is_below None index = true
 is_below (Some s) index = nat_lt s.0 index
 
 -- whether an array index is past that of the last slot
-abbrev pub is_next : Slots → ℕ → Bool
-is_next slots index = is_below (slice_get slots (length slots - 1)) index && nat_lt index 4294967295
+abbrev pub is_past_last : Slots → ℕ → Bool
+is_past_last slots index = is_below (slice_get slots (length slots - 1)) index && nat_lt index 4294967295
 
 -- whether a property under this index stands in its slot or goes behind the last, so that the order stays that of indexes
 abbrev pub takes : Slots → ℕ → Bool
-takes slots index = is_some (property_at (elements_of slots) (decimal index)) || is_next slots index
+takes slots index = is_some (property_at (elements_of slots) (decimal index)) || is_past_last slots index
 
 -- the index under which such a property has this name
 abbrev pub index_if : Bool → ℕ → Option ℕ

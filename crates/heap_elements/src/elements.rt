@@ -32,7 +32,7 @@ ghost use Rattle.heap_elements.specs.Elements.{
   AreRising,
   has_index,
   is_below,
-  is_next,
+  is_past_last,
   takes,
   taken_index,
   HasIndex,
@@ -50,8 +50,8 @@ use utf16_text::{Memory, Text, TextList};
 /// An index with the property under it, or the gap that a deleted one left.
 type Slot = (u32, Option<Property>);
 
-/// Properties whose names are array indexes, each created behind those of lower indexes, seen as the slots in which they
-/// stand.
+/// Properties whose names are array indexes, each created behind those of lower indexes, seen as the slots in which
+/// they stand.
 ///
 /// As long as no index was left out, each stands at the place of its number, and is found there in a step; else it is
 /// searched by halving. A deletion leaves a gap. Gaps at the end go at once. The others are closed after as many
@@ -105,8 +105,8 @@ impl Elements {
     }
 
     /// Whether the index is past that of the last property. Nothing stands under it.
-    pub fn is_next(&self, index: u32) -> bool
-        ensures next { result ≡ is_next self.now index }
+    pub fn is_past_last(&self, index: u32) -> bool
+        ensures next { result ≡ is_past_last self.now index }
         ensures missing { result ≡ true → property_at (elements_of self.now) (decimal index) ≡ None }
     {
         ends_below(&self.slots, index) && index < u32::MAX
@@ -116,7 +116,7 @@ impl Elements {
     pub fn takes(&self, index: u32) -> bool
         ensures { result ≡ takes self.now index }
     {
-        self.get(index).is_some() || self.is_next(index)
+        self.get(index).is_some() || self.is_past_last(index)
     }
 
     /// The index that a name is, where a property under it stands in its slot or goes behind the last.

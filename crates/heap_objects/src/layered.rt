@@ -94,10 +94,10 @@ impl Layered {
     }
 
     /// Whether an element under this index goes behind the last. Nothing stands under it.
-    pub(crate) fn is_next(&self, index: u32) -> bool
+    pub(crate) fn is_past_last(&self, index: u32) -> bool
         ensures { result ≡ true → property_at self.now (decimal index) ≡ None }
     {
-        has_no_table(&self.table) && self.own.is_next(index)
+        has_no_table(&self.table) && self.own.is_past_last(index)
     }
 
     /// The marks of the property under an index. No name is made for an element.
@@ -107,7 +107,7 @@ impl Layered {
         if let Some(property) = self.element(index) {
             return Ok(Some(marks_of(property)));
         }
-        if self.is_next(index) {
+        if self.is_past_last(index) {
             return Ok(None);
         }
         Ok(self.marks(&index_name(alloc, index)?))

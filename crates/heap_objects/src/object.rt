@@ -189,7 +189,7 @@ impl Object {
         if self.properties.element(index).is_some() {
             return Some(steps);
         }
-        if self.properties.is_next(index) {
+        if self.properties.is_past_last(index) {
             return Some(steps + 1);
         }
         None

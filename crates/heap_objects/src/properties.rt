@@ -85,12 +85,12 @@ impl Properties {
     }
 
     /// Whether an element under this index goes behind the last. Nothing stands under it.
-    pub fn is_next(&self, index: u32) -> bool
+    pub fn is_past_last(&self, index: u32) -> bool
         ensures { result ≡ true → property_at self.now (decimal index) ≡ None }
     {
         match &self.form {
             Form::Row(row) => row.is_empty() && index == 0,
-            Form::Elements(elements) => elements.is_next(index),
+            Form::Elements(elements) => elements.is_past_last(index),
             Form::Ordered(_) => false,
         }
     }
