@@ -6,9 +6,7 @@ use Rattle.js_tree.specs.declared.operators.BinaryOp.{BinaryOp}
 use Rattle.js_tree.specs.declared.operators.BinaryOp.TheVariants as op
 use Rattle.js_tree.specs.Tree.{ExpressionTree, FunctionTree, Operands, an_operand}
 use Rattle.js_tree.specs.View.{operands_of}
-use Rattle.heap_values.specs.declared.ids.ObjectId.{ObjectId}
 use Rattle.heap_values.specs.declared.value.Value.{Value}
-use Rattle.heap_values.specs.declared.value.Value.TheVariants as value
 use Rattle.js_convert.specs.Numeric.{truth_of}
 use Rattle.run_trees.specs.Runs.{pure, ◌>>=◌}
 use Rattle.js_evaluation.specs.State.{Does}

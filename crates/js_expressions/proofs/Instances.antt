@@ -1,5 +1,5 @@
 -- `instanceof`, by whether its right side can be called (ECMA-262 5.1, section 11.8.6).
-use Rattle.std.proofs.Common.{◌≡◌, Bool, Option, Some, None, Result, codes, ap, if◌then◌else◌}
+use Rattle.std.proofs.Common.{◌≡◌, Bool, Some, None, Result, codes, ap, if◌then◌else◌}
 use Rattle.js_tree.specs.declared.place.Place.{Place}
 use Rattle.heap_values.specs.declared.ids.ObjectId.{ObjectId}
 use Rattle.heap_values.specs.declared.value.Value.{Value}

@@ -1,3 +1,4 @@
+pub mod AtOnce
 pub mod Binary
 pub mod Instances
 pub mod Nodes

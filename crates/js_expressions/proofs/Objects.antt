@@ -1,5 +1,5 @@
 -- What is asked of values that are no objects.
-use Rattle.std.proofs.Common.{◌≡◌, List, codes, refl, false}
+use Rattle.std.proofs.Common.{◌≡◌, codes, refl, false}
 use Rattle.js_tree.specs.declared.place.Place.{Place}
 use Rattle.heap_values.specs.declared.ids.ObjectId.{ObjectId}
 use Rattle.heap_values.specs.declared.value.Value.{Value}

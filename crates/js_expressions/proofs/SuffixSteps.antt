@@ -1,18 +1,22 @@
 -- Suffixes, one after another (ECMA-262 5.1, section 11.2).
-use Rattle.std.proofs.Common.{◌≡◌, ℕ, ◌+◌, List, [], ◌∷◌, true, false, Ok, Err, Result, refl, ap, sym, ◌∙◌, subst}
+use Rattle.std.proofs.Common.{◌≡◌, ℕ, ◌+◌, List, [], ◌∷◌, true, false, Some, None, Ok, Err, Result, refl, ap, sym, ◌∙◌, subst}
 use Rattle.std.specs.Result.{IsErrAnd}
 use Rattle.js_tree.specs.declared.place.Place.{Place}
 use Rattle.js_tree.specs.declared.expression.Suffix.{Suffix}
 use Rattle.js_tree.specs.declared.expression.SuffixNode.{SuffixNode}
 use Rattle.js_tree.specs.declared.expression.SuffixNode.TheVariants as node
-use Rattle.js_tree.specs.Tree.{FunctionTree, SuffixTree, Suffixes, a_member, no_suffix, a_suffix}
+use Rattle.js_tree.specs.Tree.{ExpressionTree, FunctionTree, SuffixTree, Suffixes, a_member, an_index, no_suffix, a_suffix}
 use Rattle.js_tree.specs.View.{suffix_of, suffixes_of}
+use Rattle.heap_values.specs.declared.ids.ObjectId.{ObjectId}
 use Rattle.heap_values.specs.declared.value.Value.{Value}
+use Rattle.heap_values.specs.declared.value.Value.TheVariants as value
 use Rattle.heap_values.specs.Views.{HeapView}
 use Rattle.run_trees.specs.Runs.{◌>>=◌, ◌>>◌}
 use Rattle.js_evaluation.specs.declared.fault.FaultCode.TheVariants as code
 use Rattle.js_evaluation.specs.State.{Does, charge}
-use Rattle.js_evaluation.specs.Objects.{Context}
+use Rattle.js_convert.specs.Texts.{text_of}
+use Rattle.js_evaluation.specs.Objects.{Context, get, test_base}
+use Rattle.js_evaluation.specs.Conversions as convert
 use Rattle.js_evaluation.specs.Expressions.{suffix_place}
 use Rattle.js_frames.specs.declared.expression_frame.Aim.{Aim}
 use Rattle.js_frames.specs.declared.expression_frame.Aim.TheVariants as aim
@@ -26,8 +30,11 @@ use Rattle.heap_steps.specs.Works.{Works}
 use Rattle.js_machine.specs.declared.machine.Machine.{Machine}
 use Rattle.js_machine.specs.declared.now.Now.{Now}
 use Rattle.js_machine.specs.Moves.{Moves, at, functions_of, inner}
+use Rattle.js_machine.specs.Leaves.{Reaches}
 use Rattle.js_machine.proofs.Steps.{with_heap, works_then, works_stops}
+use Rattle.js_machine.proofs.Acting.{reached_then, reached_stops, not_reached}
 use Rattle.js_expressions.specs.Suffixes.{is_last, member}
+use Rattle.js_native_calls.proofs.Objects.{is_primitive}
 use Rattle.js_native_calls.proofs.Steps.{with_fuel, charged, spent}
 
 module _ (functions : List FunctionTree) (go : Within) (cx : Context) where
@@ -95,3 +102,33 @@ module _ (m : Machine) (purpose : Aim) (this v : Value) where
     pub member_stops : (r : Result Now Halt) (e : Halt) → IsErrAnd r (λ x. x ≡ e) → Works (member v name p) m.state.heap (Err e) h
         → Moves (at m and_then purpose this v (a_member p name) ss) m r (with_heap m h)
     member_stops r e i g = works_stops (member v name p) (λ x. at m suffixes_by purpose v x (suffixes_of ss)) m h r e i g
+
+-- ---- an index, and then the suffixes behind it
+
+module _ (m m₁ : Machine) (purpose : Aim) (this v : Value) (p : Place) (e : ExpressionTree) (ss : List Suffix) (r : Result Now Halt) where
+  -- what is done with an index that has a value
+  abbrev with_index : List FunctionTree → Within → Context → Value → Does Value
+  with_index functions go cx k = test_base v p >> convert.to_primitive (rule.call functions go cx) convert.text_methods k p
+      >>= (λ key. get v (text_of key) p >>= (λ w. suffixes_by functions go cx purpose v w (suffixes_of ss)))
+
+  pub index_then : (k : Value) (m' : Machine) → Reaches (at m rule.visit e) m (Ok (Some k)) m₁ → Moves (at m₁ with_index k) m₁ r m' → Moves (at m and_then purpose this v (an_index p e) ss) m r m'
+  index_then k m' reaches goes = reached_then (at m rule.visit e) with_index m m₁ k r m' reaches goes
+
+  pub index_stops : (h : Halt) → IsErrAnd r (λ x. x ≡ h) → Reaches (at m rule.visit e) m (Err h) m₁ → Moves (at m and_then purpose this v (an_index p e) ss) m r m₁
+  index_stops h i reaches = reached_stops (at m rule.visit e) with_index m m₁ r h i reaches
+
+  pub index_visited : (m' : Machine) → Reaches (at m rule.visit e) m (Ok None) m₁ → Moves (at m₁ and_then purpose this v (an_index p e) ss) m₁ r m' → Moves (at m and_then purpose this v (an_index p e) ss) m r m'
+  index_visited m' reaches goes = not_reached (at m rule.visit e) (λ functions go cx. and_then functions go cx purpose this v (an_index p e) ss) m m₁ r m' reaches goes
+
+  -- a primitive value is the key
+  module _ (k : Value) (primitive : (id : ObjectId) → k ≡ value.Object id → ⊥) (reaches : Reaches (at m rule.visit e) m (Ok (Some k)) m₁) (h : HeapView) where
+    by_key : (m' : Machine) → Moves (member v (text_of k) p >>= (λ w. at m₁ suffixes_by purpose v w (suffixes_of ss))) m₁ r m' → Moves (at m and_then purpose this v (an_index p e) ss) m r m'
+    by_key m' goes = index_then k m' reaches (subst (λ (q : Does Value). Moves (test_base v p >> q >>= (λ key. get v (text_of key) p >>= (λ w. at m₁ suffixes_by purpose v w (suffixes_of ss)))) m₁ r m')
+        (sym (is_primitive (at m₁ rule.call) convert.text_methods k p primitive)) goes)
+
+    pub element_then : (w : Value) (m' : Machine) → Works (member v (text_of k) p) m₁.state.heap (Ok w) h
+        → Moves (at m₁ suffixes_by purpose v w (suffixes_of ss)) (with_heap m₁ h) r m' → Moves (at m and_then purpose this v (an_index p e) ss) m r m'
+    element_then w m' works goes = by_key m' (works_then (member v (text_of k) p) (λ x. at m₁ suffixes_by purpose v x (suffixes_of ss)) m₁ h w works goes)
+
+    pub element_stops : (x : Halt) → IsErrAnd r (λ y. y ≡ x) → Works (member v (text_of k) p) m₁.state.heap (Err x) h → Moves (at m and_then purpose this v (an_index p e) ss) m r (with_heap m₁ h)
+    element_stops x i works = by_key (with_heap m₁ h) (works_stops (member v (text_of k) p) (λ w. at m₁ suffixes_by purpose v w (suffixes_of ss)) m₁ h r x i works)

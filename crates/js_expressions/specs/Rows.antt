@@ -8,6 +8,7 @@ use Rattle.js_tree.specs.Tree.{FunctionTree}
 use Rattle.js_tree.specs.View.{operands_of}
 use Rattle.heap_values.specs.declared.value.Value.{Value}
 use Rattle.js_convert.specs.Numeric.{truth_of}
+use Rattle.js_convert.specs.Operators.{is_object}
 use Rattle.run_trees.specs.Runs.{◌>>=◌}
 use Rattle.js_evaluation.specs.State.{Does}
 use Rattle.js_evaluation.specs.Objects.{Context}
@@ -20,6 +21,14 @@ abbrev pub decides : BinaryOp → Value → Bool
 decides op.Or v = truth_of v
 decides op.And v = not (truth_of v)
 decides o v = false
+
+-- whether an operator works at once on this value and a primitive one behind it
+abbrev pub is_at_once : BinaryOp → Value → Bool
+is_at_once op.Or v = false
+is_at_once op.And v = false
+is_at_once op.In v = false
+is_at_once op.InstanceOf v = false
+is_at_once o v = not (is_object v)
 
 module _ (functions : List FunctionTree) (go : Within) (cx : Context) where
   -- an operand that is evaluated, by its operator

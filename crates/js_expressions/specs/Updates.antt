@@ -6,7 +6,7 @@ use Rattle.js_tree.specs.declared.operators.UpdateOp.{UpdateOp}
 use Rattle.js_tree.specs.Tree.{FunctionTree}
 use Rattle.heap_values.specs.declared.value.Value.{Value}
 use Rattle.heap_values.specs.declared.value.Value.TheVariants as value
-use Rattle.run_trees.specs.Runs.{pure, ◌>>=◌, ◌>>◌}
+use Rattle.run_trees.specs.Runs.{pure, ◌>>=◌}
 use Rattle.js_evaluation.specs.State.{Does}
 use Rattle.js_evaluation.specs.Objects.{Context}
 use Rattle.js_evaluation.specs.Conversions as convert

@@ -1,5 +1,5 @@
 // Assignment (ECMA-262 5.1, section 11.13).
-ghost use Rattle.std.specs.Prelude.{◌≡◌, Some};
+ghost use Rattle.std.specs.Prelude.{◌≡◌, None, Some};
 ghost use Rattle.js_evaluation.specs.Conversions.{assigned_by};
 ghost use Rattle.js_frames.specs.Parts.{reference_of};
 ghost use Rattle.js_frames.specs.Rules as rule;
@@ -44,13 +44,18 @@ pub fn assigned<'p>(
 ) -> Step<'p>
     ensures { Moves (at machine.old rule.assigned place target.entry.now op value.entry.now) machine.old result machine.new }
 {
-    let frame = ExpressionFrame::AssignTarget {
-        op,
-        target,
-        value,
-        place,
-    };
-    machine.refer(target, Frame::Expression(frame))
+    match machine.leaf_target(target)? {
+        Some(key) => target_done(machine, op, target, value, place, &key),
+        None => {
+            let frame = ExpressionFrame::AssignTarget {
+                op,
+                target,
+                value,
+                place,
+            };
+            machine.refer(target, Frame::Expression(frame))
+        }
+    }
 }
 
 /// The target is there; an operator reads it before the value is evaluated.
@@ -66,11 +71,26 @@ pub fn target_done<'p>(
 {
     let reference = referred(machine.alloc, target, key, &machine.state.base)?;
     match operator_of(op) {
+        None => target_set(machine, reference, value, place),
+        Some(op) => target_read(machine, op, reference, value, place),
+    }
+}
+
+/// Visits the value of `=`.
+fn target_set<'p>(
+    machine: &mut Machine<'p>,
+    reference: Reference<'p>,
+    value: &'p Expression,
+    place: Place,
+) -> Step<'p>
+    ensures { Moves (at machine.old spec.assigned_to place (reference_of reference.entry) None value.entry.now) machine.old result machine.new }
+{
+    match machine.leaf(value)? {
+        Some(value) => value_done(machine, &reference, place, value),
         None => {
             let frame = ExpressionFrame::AssignValue { reference, place };
             machine.evaluate(value, Frame::Expression(frame))
         }
-        Some(op) => target_read(machine, op, reference, value, place),
     }
 }
 
@@ -87,13 +107,18 @@ fn target_read<'p>(
     let scope = machine.context.scope;
     let heap = &mut machine.state.heap;
     let old = read_reference(machine.alloc, heap, scope, &reference)?;
-    let frame = ExpressionFrame::AssignOperand {
-        op,
-        old,
-        reference,
-        place,
-    };
-    machine.evaluate(value, Frame::Expression(frame))
+    match machine.leaf(value)? {
+        Some(value) => assigned_operand(machine, op, old, reference, place, value),
+        None => {
+            let frame = ExpressionFrame::AssignOperand {
+                op,
+                old,
+                reference,
+                place,
+            };
+            machine.evaluate(value, Frame::Expression(frame))
+        }
+    }
 }
 
 /// The value of `=` is there.

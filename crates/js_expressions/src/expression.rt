@@ -6,7 +6,7 @@ ghost use Rattle.js_frames.specs.Rules as rule;
 ghost use Rattle.js_machine.specs.Moves.{Moves, at};
 
 use crate::assignments::assigned;
-use crate::rows::chain;
+use crate::rows::row;
 use crate::suffixes::suffixed;
 use crate::unary::unary;
 use crate::updates::updated;
@@ -45,7 +45,7 @@ pub fn expression_node<'p>(machine: &mut Machine<'p>, e: &'p Expression) -> Step
         ExpressionNode::New(callee, all) => new_value(machine, callee, all.as_slice(), place),
         ExpressionNode::Update(form, op, target) => updated(machine, *form, *op, target, place),
         ExpressionNode::Unary(op, operand) => unary(machine, *op, operand, place),
-        ExpressionNode::Chain(first, all) => chain(machine, first, all.as_slice()),
+        ExpressionNode::Chain(first, all) => row(machine, first, all.as_slice()),
         ExpressionNode::Conditional(condition, held, otherwise) => {
             conditional(machine, condition, held, otherwise)
         }

@@ -38,6 +38,22 @@ pub fn binary<'p>(
     }
 }
 
+/// The object on the right side, where it becomes a primitive value first.
+pub fn converted_object(op: BinaryOp, a: &Value, b: &Value) -> Option<ObjectId>
+    ensures { (call : Call) → result ≡ spec.converted_object call op a.now b.now }
+{
+    match b {
+        Value::Object(object) => {
+            if takes_primitives(op, a, b) {
+                Some(*object)
+            } else {
+                None
+            }
+        }
+        _ => None,
+    }
+}
+
 /// Whether an object among the operands becomes a primitive value first.
 fn takes_primitives(op: BinaryOp, a: &Value, b: &Value) -> bool
     ensures { (call : Call) → result ≡ conversion.takes_primitives call op a.now b.now }
@@ -131,17 +147,29 @@ pub fn right_operand<'p>(
     ensures { Moves (at machine.old spec.right_operand op left right place next.entry) machine.old result machine.new }
 {
     match right {
-        Value::Object(object) => {
-            let wanted = Wanted::Right {
-                op,
-                left,
-                place,
-                next,
-            };
-            convert(machine, Methods::ForNumber, object, place, wanted)
-        }
+        Value::Object(right) => right_object(machine, op, left, right, place, next),
         right => operated(machine, op, &left, &right, place, next),
     }
+}
+
+/// An object on the right side becomes a primitive value, where the left one is.
+pub fn right_object<'p>(
+    machine: &mut Machine<'p>,
+    op: BinaryOp,
+    left: Value,
+    right: ObjectId,
+    place: Place,
+    next: Operated<'p>,
+) -> Step<'p>
+    ensures { Moves (at machine.old spec.right_operand op left (value.Object right) place next.entry) machine.old result machine.new }
+{
+    let wanted = Wanted::Right {
+        op,
+        left,
+        place,
+        next,
+    };
+    convert(machine, Methods::ForNumber, right, place, wanted)
 }
 
 /// An operator on two primitive values, or on two values that it compares as they are.

@@ -7,7 +7,8 @@ ghost use Rattle.js_frames.specs.declared.expression_frame.ExpressionFrame.TheVa
 ghost use Rattle.js_machine.specs.Moves.{Moves, at, evaluated};
 ghost use Rattle.js_expressions.specs.Rows as spec;
 
-use crate::operators::binary;
+use crate::operators::{binary, converted_object, right_object};
+use heap_steps::operate;
 use heap_values::Value;
 use js_convert::to_boolean;
 use js_frames::{ExpressionFrame, Frame, Operated};
@@ -24,6 +25,20 @@ pub fn chain<'p>(
 {
     let frame = ExpressionFrame::Row { rest: operands };
     machine.evaluate(first, Frame::Expression(frame))
+}
+
+/// A row whose first operand may be had at once.
+pub fn row<'p>(
+    machine: &mut Machine<'p>,
+    first: &'p Expression,
+    operands: &'p [Operand],
+) -> Step<'p>
+    ensures { Moves (at machine.old rule.chain first.entry.now (operands_of operands.entry.now)) machine.old result machine.new }
+{
+    match machine.leaf(first)? {
+        Some(value) => operands_from(machine, value, operands),
+        None => chain(machine, first, operands),
+    }
 }
 
 /// Whether the value before `||` or `&&` decides.
@@ -45,15 +60,41 @@ pub fn operands_from<'p>(
 ) -> Step<'p>
     ensures { Moves (at machine.old rule.operands_from value (operands_of operands.entry.now)) machine.old result machine.new }
 {
+    let mut value = value;
     let mut left = operands;
     while let [operand, rest @ ..] = left {
         if decides(operand.op, &value) {
             left = rest;
-        } else {
+            continue;
+        }
+        if !is_at_once(operand.op, &value) {
             return operand_of(machine, value, operand, rest);
         }
+        let Some(right) = machine.leaf(&operand.value)? else {
+            return operand_of(machine, value, operand, rest);
+        };
+        let (op, place) = (operand.op, operand.place);
+        if let Some(object) = converted_object(op, &value, &right) {
+            return right_object(machine, op, value, object, place, Operated::Row { rest });
+        }
+        let heap = &mut machine.state.heap;
+        value = operate(machine.alloc, heap, op, &value, &right, place)?;
+        left = rest;
     }
     Ok(Now::Back(Ok(value)))
+}
+
+/// Whether an operator works at once on this value and a primitive one behind it.
+fn is_at_once(op: BinaryOp, left: &Value) -> bool
+    ensures { result ≡ spec.is_at_once op left.now }
+{
+    match op {
+        BinaryOp::Or => false,
+        BinaryOp::And => false,
+        BinaryOp::In => false,
+        BinaryOp::InstanceOf => false,
+        _ => !matches!(left, Value::Object(_)),
+    }
 }
 
 /// An operand that is evaluated.

@@ -2,6 +2,8 @@
 ghost use Rattle.std.specs.Prelude.{◌≡◌, IfOk};
 ghost use Rattle.js_tree.specs.Tree.{no_suffix};
 ghost use Rattle.js_tree.specs.View.{suffix_of, suffixes_of};
+ghost use Rattle.heap_values.specs.declared.value.Value.TheVariants as value;
+ghost use Rattle.js_convert.specs.Texts.{text_of};
 ghost use Rattle.js_evaluation.specs.State.{global_object};
 ghost use Rattle.js_frames.specs.RestOf.{after_suffix, suffixes_by};
 ghost use Rattle.js_frames.specs.declared.frame.Frame.TheVariants as frame;
@@ -11,10 +13,11 @@ ghost use Rattle.js_machine.specs.Moves.{Moves, at, evaluated};
 ghost use Rattle.js_expressions.specs.Suffixes as spec;
 
 use crate::primitives::primitive;
-use heap_steps::{Halt, get, test_base};
-use heap_values::{BuiltIn, Value};
+use heap_steps::{Halt, get, get_by, test_base};
+use heap_values::{BuiltIn, ObjectId, Value};
 use js_frames::{Aim, Frame, Methods, SuffixFrame, Wanted};
 use js_machine::{Machine, Now, Step, charge};
+use js_native_calls::convert;
 use js_primary::first_arguments;
 use js_tree::{Expression, ExpressionNode, Place, Suffix, SuffixNode};
 use object_heap::Heap;
@@ -30,12 +33,17 @@ pub fn suffixed<'p>(
 ) -> Step<'p>
     ensures { Moves (at machine.old evaluated first.entry.now (frame.Suffix (of_suffix.First aim first.entry suffixes.entry))) machine.old result machine.new }
 {
-    let frame = SuffixFrame::First {
-        aim,
-        first,
-        suffixes,
-    };
-    machine.evaluate(first, Frame::Suffix(frame))
+    match machine.leaf(first)? {
+        Some(value) => first_done(machine, aim, first, suffixes, value),
+        None => {
+            let frame = SuffixFrame::First {
+                aim,
+                first,
+                suffixes,
+            };
+            machine.evaluate(first, Frame::Suffix(frame))
+        }
+    }
 }
 
 /// The global object.
@@ -102,7 +110,23 @@ pub fn suffixes_from<'p>(
                 value = found;
                 left = rest;
             }
-            SuffixNode::Index(e) => return index(machine, aim, value, e, place, rest),
+            SuffixNode::Index(e) => {
+                let Some(key) = machine.leaf(e)? else {
+                    return index(machine, aim, value, e, place, rest);
+                };
+                match key {
+                    Value::Object(key) => {
+                        return object_index(machine, aim, value, key, place, rest);
+                    }
+                    key => {
+                        let heap = &mut machine.state.heap;
+                        let found = element(machine.alloc, heap, &value, &key, place)?;
+                        this = value;
+                        value = found;
+                        left = rest;
+                    }
+                }
+            }
             SuffixNode::Call(all) => {
                 return first_arguments(machine, aim, this, value, all, place, rest);
             }
@@ -146,6 +170,20 @@ fn member(
 {
     test_base(alloc, heap, base, place)?;
     get(alloc, heap, base, name, place)
+}
+
+/// What a value has under a primitive key.
+fn element(
+    alloc: Global,
+    heap: &mut Heap,
+    base: &Value,
+    key: &Value,
+    place: Place,
+) -> Result<Value, Halt>
+    ensures { Works (spec.member base.now (text_of key.now) place) heap.old result heap.new }
+{
+    test_base(alloc, heap, base, place)?;
+    get_by(alloc, heap, base, key, place)
 }
 
 /// The index of a value.
@@ -200,6 +238,27 @@ pub fn index_done<'p>(
 ) -> Step<'p>
     ensures { Moves (at machine.old after_suffix (of_suffix.Index aim base place rest.entry) value) machine.old result machine.new }
 {
+    match value {
+        Value::Object(key) => object_index(machine, aim, base, key, place, rest),
+        key => {
+            let heap = &mut machine.state.heap;
+            let value = element(machine.alloc, heap, &base, &key, place)?;
+            suffixes_from(machine, aim, base, value, rest)
+        }
+    }
+}
+
+/// The index of a base is an object, which becomes a primitive value.
+fn object_index<'p>(
+    machine: &mut Machine<'p>,
+    aim: Aim,
+    base: Value,
+    key: ObjectId,
+    place: Place,
+    rest: &'p [Suffix],
+) -> Step<'p>
+    ensures { Moves (at machine.old after_suffix (of_suffix.Index aim base place rest.entry) (value.Object key)) machine.old result machine.new }
+{
     let heap = &mut machine.state.heap;
     test_base(machine.alloc, heap, &base, place)?;
     let wanted = Wanted::Index {
@@ -208,7 +267,7 @@ pub fn index_done<'p>(
         place,
         rest,
     };
-    primitive(machine, Methods::ForText, value, place, wanted)
+    convert(machine, Methods::ForText, key, place, wanted)
 }
 
 /// The index of the last suffix of a target has this value.

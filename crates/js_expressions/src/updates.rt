@@ -29,13 +29,18 @@ pub fn updated<'p>(
 ) -> Step<'p>
     ensures { Moves (at machine.old rule.updated place form op target.entry.now) machine.old result machine.new }
 {
-    let frame = ExpressionFrame::UpdateTarget {
-        form,
-        op,
-        target,
-        place,
-    };
-    machine.refer(target, Frame::Expression(frame))
+    match machine.leaf_target(target)? {
+        Some(key) => update_done(machine, form, op, target, place, &key),
+        None => {
+            let frame = ExpressionFrame::UpdateTarget {
+                form,
+                op,
+                target,
+                place,
+            };
+            machine.refer(target, Frame::Expression(frame))
+        }
+    }
 }
 
 /// The target is there: it is read, and becomes a number.

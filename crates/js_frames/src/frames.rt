@@ -1,6 +1,7 @@
 // The stack of open parts.
 ghost use Rattle.std.specs.Prelude.{
   ◌≡◌,
+  ◌-◌,
   ◌<◌,
   ◌≤◌,
   ◌∷◌,
@@ -95,6 +96,13 @@ impl<'p> Frames<'p> {
         ensures { IsTrue result ↔ (room self.now ≡ 0) }
     {
         self.len() >= MOST_OPEN
+    }
+
+    /// Whether no part may be opened within one more.
+    pub fn is_full_within(&self) -> bool
+        ensures { IsTrue result ↔ (room self.now - 1 ≡ 0) }
+    {
+        self.len() >= MOST_OPEN - 1
     }
 
     /// Opens a part. It is given back exactly where 2,000 are open.

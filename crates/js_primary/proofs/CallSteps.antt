@@ -1,25 +1,30 @@
--- Calls, by whether what is called can be (ECMA-262 5.1, section 11.2.3).
-use Rattle.std.proofs.Common.{◌≡◌, List, Some, None, Result, codes, ap}
+-- Calls: their arguments, and whether what is called can be (ECMA-262 5.1, section 11.2.3).
+use Rattle.std.proofs.Common.{◌≡◌, List, [], ◌∷◌, ◌++◌, Some, None, Ok, Err, Result, codes, ap}
+use Rattle.std.specs.Result.{IsErrAnd}
 use Rattle.std.specs.Borrow.{Bor}
 use Rattle.js_tree.specs.declared.place.Place.{Place}
 use Rattle.js_tree.specs.declared.expression.Suffix.{Suffix}
+use Rattle.js_tree.specs.Tree.{ExpressionTree, Expressions, FunctionTree, an_expression}
 use Rattle.js_tree.specs.View.{suffixes_of}
 use Rattle.heap_values.specs.declared.ids.ObjectId.{ObjectId}
 use Rattle.heap_values.specs.declared.value.Value.{Value}
 use Rattle.run_trees.specs.Runs.{onward}
 use Rattle.js_evaluation.specs.State.{Does, global_object, throw_type_error}
+use Rattle.js_evaluation.specs.Objects.{Context}
 use Rattle.js_frames.specs.declared.expression_frame.Aim.{Aim}
 use Rattle.js_frames.specs.declared.expression_frame.SuffixFrame.TheVariants as of_suffix
 use Rattle.js_frames.specs.declared.frame.Frame.TheVariants as frame
 use Rattle.js_frames.specs.Rules as rule
-use Rattle.js_frames.specs.Rules.{AfterValue}
+use Rattle.js_frames.specs.Rules.{Within, AfterValue}
 use Rattle.js_frames.specs.RestOf.{suffixes_by}
 use Rattle.heap_steps.specs.declared.halt.Halt.{Halt}
 use Rattle.heap_steps.specs.Works.{called_object}
 use Rattle.js_machine.specs.declared.machine.Machine.{Machine}
 use Rattle.js_machine.specs.declared.now.Now.{Now}
 use Rattle.js_machine.specs.Moves.{Moves, at, called, run_state}
-use Rattle.js_primary.specs.Calls.{call_value}
+use Rattle.js_machine.specs.Leaves.{Reaches}
+use Rattle.js_machine.proofs.Acting.{reached_then, reached_stops, not_reached}
+use Rattle.js_primary.specs.Calls.{call_value, arguments_from}
 use Rattle.js_native_calls.proofs.Objects.{called_value, uncalled_value}
 use Rattle.js_native_calls.proofs.Steps.{moves_as}
 
@@ -28,18 +33,39 @@ module _ (m : Machine) (purpose : Aim) (this callee : Value) (vs : List Value) (
   behind after = onward (λ w. at m suffixes_by purpose global_object w (suffixes_of rest.now)) after
 
   there : (f : ObjectId) → called_object m.state.heap callee ≡ Some f → (after : AfterValue)
-      → at m call_value purpose this callee vs place rest after (run_state m.state)
+      → at m call_value purpose this callee vs place rest.now after (run_state m.state)
       ≡ at m called f this vs place (frame.Suffix (of_suffix.Called purpose rest)) after (run_state m.state)
   there f e after = ap (λ (p : Does Value). p (behind after) (run_state m.state)) (called_value (at m rule.call) this vs place m.state.heap callee f e)
 
   pub called_there : (f : ObjectId) → called_object m.state.heap callee ≡ Some f
-      → Moves (at m called f this vs place (frame.Suffix (of_suffix.Called purpose rest))) m r m' → Moves (at m call_value purpose this callee vs place rest) m r m'
+      → Moves (at m called f this vs place (frame.Suffix (of_suffix.Called purpose rest))) m r m' → Moves (at m call_value purpose this callee vs place rest.now) m r m'
   called_there f e k = moves_as _ m _ r m' (there f e) k
 
   nowhere : called_object m.state.heap callee ≡ None → (after : AfterValue)
-      → at m call_value purpose this callee vs place rest after (run_state m.state) ≡ throw_type_error (codes "not a function") place after (run_state m.state)
+      → at m call_value purpose this callee vs place rest.now after (run_state m.state) ≡ throw_type_error (codes "not a function") place after (run_state m.state)
   nowhere e after = ap (λ (p : Does Value). p (behind after) (run_state m.state)) (uncalled_value (at m rule.call) this vs place m.state.heap callee e)
 
   pub not_called : called_object m.state.heap callee ≡ None → Moves (throw_type_error (codes "not a function") place) m r m'
-      → Moves (at m call_value purpose this callee vs place rest) m r m'
+      → Moves (at m call_value purpose this callee vs place rest.now) m r m'
   not_called e k = moves_as _ m _ r m' (nowhere e) k
+
+-- ---- an argument that is had at once
+
+module _ (m m₁ : Machine) (purpose : Aim) (this callee : Value) (done : List Value) (e : ExpressionTree) (left : Expressions) (place : Place) (rest : List Suffix) (r : Result Now Halt) where
+  -- what is done with its value
+  abbrev with_argument : List FunctionTree → Within → Context → Value → Does Value
+  with_argument functions go cx v = arguments_from functions go cx purpose this callee (done ++ v ∷ []) left place rest
+
+  pub argument_then : (v : Value) (m' : Machine) → Reaches (at m rule.visit e) m (Ok (Some v)) m₁ → Moves (at m₁ arguments_from purpose this callee (done ++ v ∷ []) left place rest) m₁ r m'
+      → Moves (at m arguments_from purpose this callee done (an_expression e left) place rest) m r m'
+  argument_then v m' k goes = reached_then (at m rule.visit e) with_argument m m₁ v r m' k goes
+
+  pub argument_stops : (h : Halt) → IsErrAnd r (λ x. x ≡ h) → Reaches (at m rule.visit e) m (Err h) m₁
+      → Moves (at m arguments_from purpose this callee done (an_expression e left) place rest) m r m₁
+  argument_stops h i k = reached_stops (at m rule.visit e) with_argument m m₁ r h i k
+
+  -- where it is not, it is visited
+  pub argument_visited : (m' : Machine) → Reaches (at m rule.visit e) m (Ok None) m₁ → Moves (at m₁ arguments_from purpose this callee done (an_expression e left) place rest) m₁ r m'
+      → Moves (at m arguments_from purpose this callee done (an_expression e left) place rest) m r m'
+  argument_visited m' k goes =
+      not_reached (at m rule.visit e) (λ functions go cx. arguments_from functions go cx purpose this callee done (an_expression e left) place rest) m m₁ r m' k goes

@@ -1,6 +1,5 @@
 -- Calls as frames have them, each with the suffixes behind it (ECMA-262 5.1, section 11.2.3).
 use Rattle.std.specs.Prelude.{List}
-use Rattle.std.specs.Borrow.{Bor}
 use Rattle.js_tree.specs.declared.place.Place.{Place}
 use Rattle.js_tree.specs.declared.expression.Suffix.{Suffix}
 use Rattle.js_tree.specs.Tree.{Expressions, FunctionTree}
@@ -17,12 +16,12 @@ use Rattle.js_frames.specs.Rules.{Within}
 
 module _ (functions : List FunctionTree) (go : Within) (cx : Context) where
   -- a call, and then the suffixes behind it
-  abbrev pub call_value : Aim → Value → Value → List Value → Place → Bor (List Suffix) → Does Value
+  abbrev pub call_value : Aim → Value → Value → List Value → Place → List Suffix → Does Value
   call_value purpose this callee vs place rest = convert.call_value (rule.call functions go cx) callee this vs place
-      >>= (λ w. suffixes_by functions go cx purpose global_object w (suffixes_of rest.now))
+      >>= (λ w. suffixes_by functions go cx purpose global_object w (suffixes_of rest))
 
   -- the arguments, the call, and then the suffixes behind it
-  abbrev pub arguments_from : Aim → Value → Value → List Value → Expressions → Place → Bor (List Suffix) → Does Value
+  abbrev pub arguments_from : Aim → Value → Value → List Value → Expressions → Place → List Suffix → Does Value
   arguments_from purpose this callee done left place rest =
       rule.arguments_from functions go cx done left >>= (λ vs. convert.call_value (rule.call functions go cx) callee this vs place
-      >>= (λ w. suffixes_by functions go cx purpose global_object w (suffixes_of rest.now)))
+      >>= (λ w. suffixes_by functions go cx purpose global_object w (suffixes_of rest)))

@@ -6,7 +6,7 @@ use Rattle.js_tree.specs.declared.expression.Function.{Function}
 use Rattle.js_tree.specs.Tree.{FunctionTree}
 use Rattle.js_tree.specs.View.{function_of}
 use Rattle.heap_values.specs.declared.value.Value.{Value}
-use Rattle.run_trees.specs.Runs.{pure, ◌>>=◌, ◌>>◌}
+use Rattle.run_trees.specs.Runs.{pure, ◌>>=◌}
 use Rattle.js_evaluation.specs.State.{Does, make_scope, write_slot}
 use Rattle.js_evaluation.specs.Objects.{Context, closure}
 use Rattle.js_frames.specs.Rules.{Within}

@@ -3,7 +3,8 @@ ghost use Rattle.std.specs.Prelude.{◌++◌, ◌∷◌, []};
 ghost use Rattle.js_tree.specs.Tree.{expressions_of};
 ghost use Rattle.js_frames.specs.RestOf.{after_suffix};
 ghost use Rattle.js_frames.specs.declared.expression_frame.SuffixFrame.TheVariants as of_suffix;
-ghost use Rattle.js_machine.specs.Moves.{Moves, at};
+ghost use Rattle.js_frames.specs.declared.frame.Frame.TheVariants as frame;
+ghost use Rattle.js_machine.specs.Moves.{Moves, at, evaluated};
 ghost use Rattle.js_primary.specs.Calls as spec;
 
 use heap_steps::callable;
@@ -24,7 +25,7 @@ pub fn first_arguments<'p>(
     place: Place,
     rest: &'p [Suffix],
 ) -> Step<'p>
-    ensures { Moves (at machine.old spec.arguments_from aim this callee [] (expressions_of all.entry.now) place rest.entry) machine.old result machine.new }
+    ensures { Moves (at machine.old spec.arguments_from aim this callee [] (expressions_of all.entry.now) place rest.entry.now) machine.old result machine.new }
 {
     let done = List::new(machine.alloc);
     arguments_from(
@@ -50,23 +51,44 @@ fn arguments_from<'p>(
     place: Place,
     rest: &'p [Suffix],
 ) -> Step<'p>
-    ensures { Moves (at machine.old spec.arguments_from aim this callee done (expressions_of left.entry.now) place rest.entry) machine.old result machine.new }
+    ensures { Moves (at machine.old spec.arguments_from aim this callee done (expressions_of left.entry.now) place rest.entry.now) machine.old result machine.new }
 {
-    match left {
-        [] => call_value(machine, aim, this, callee, done, place, rest),
-        [e, left @ ..] => {
-            let frame = SuffixFrame::Argument {
-                aim,
-                this,
-                callee,
-                done,
-                left,
-                place,
-                rest,
-            };
-            machine.evaluate(e, Frame::Suffix(frame))
-        }
+    let mut done = done;
+    let mut left = left;
+    while let [e, behind @ ..] = left {
+        let Some(value) = machine.leaf(e)? else {
+            return argument(machine, aim, this, callee, done, e, behind, place, rest);
+        };
+        done.push(machine.alloc, value)?;
+        left = behind;
     }
+    call_value(machine, aim, this, callee, done, place, rest)
+}
+
+/// An argument that is visited.
+fn argument<'p>(
+    machine: &mut Machine<'p>,
+    aim: Aim,
+    this: Value,
+    callee: Value,
+    done: List<Value>,
+    e: &'p Expression,
+    left: &'p [Expression],
+    place: Place,
+    rest: &'p [Suffix],
+) -> Step<'p>
+    ensures { Moves (at machine.old evaluated e.entry.now (frame.Suffix (of_suffix.Argument aim this callee done left.entry place rest.entry))) machine.old result machine.new }
+{
+    let frame = SuffixFrame::Argument {
+        aim,
+        this,
+        callee,
+        done,
+        left,
+        place,
+        rest,
+    };
+    machine.evaluate(e, Frame::Suffix(frame))
 }
 
 /// An argument has this value.
@@ -98,7 +120,7 @@ fn call_value<'p>(
     place: Place,
     rest: &'p [Suffix],
 ) -> Step<'p>
-    ensures { Moves (at machine.old spec.call_value aim this callee arguments place rest.entry) machine.old result machine.new }
+    ensures { Moves (at machine.old spec.call_value aim this callee arguments place rest.entry.now) machine.old result machine.new }
 {
     match callable(&machine.state.heap, &callee) {
         Some(function) => {

@@ -13,7 +13,7 @@ use Rattle.heap_steps.specs.Works.{Works}
 use Rattle.js_machine.specs.declared.machine.State.{State}
 use Rattle.js_machine.specs.Moves.{beside_of, run_state}
 use Rattle.js_machine.proofs.Steps.{charge_some, charge_none}
-use Rattle.js_statements.specs.Acts.{Acts}
+use Rattle.js_machine.specs.Acts.{Acts}
 
 -- the names that are left begin with this one
 pub next_of : (names : List (List ℕ)) (i : ℕ) (name : List ℕ) → name ≡ get_or names i name → i < length names → drop i names ≡ name ∷ drop (i + 1) names

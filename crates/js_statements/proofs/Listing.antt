@@ -24,9 +24,10 @@ use Rattle.js_machine.specs.declared.machine.State.{State}
 use Rattle.js_machine.specs.declared.now.Now.{Now}
 use Rattle.js_machine.specs.declared.now.Now.TheVariants as now
 use Rattle.js_machine.specs.Moves.{Moves, at, evaluated, executed, functions_of, inner, left, resumed, beside_of}
-use Rattle.js_statements.specs.Acts.{Acts}
+use Rattle.js_machine.specs.Acts.{Acts}
 use Rattle.js_statements.specs.Loops.{listed_in, is_listed_in, with_name}
-use Rattle.js_statements.proofs.Parts.{with_state, moves_as, moves_by, acts_then, acts_stops}
+use Rattle.js_machine.proofs.Acting.{with_state, acts_then, acts_stops}
+use Rattle.js_statements.proofs.Parts.{moves_as, moves_by}
 
 module _ (functions : List FunctionTree) (go : Within) (cx : Context) (h : HeapView) (fuel : ℕ) (beside : Beside) where
   -- the names that are listed are those of the heap

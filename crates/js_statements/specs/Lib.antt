@@ -1,4 +1,3 @@
-pub mod Acts
 pub mod Attempts
 pub mod Loops
 pub mod Switches

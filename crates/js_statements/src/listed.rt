@@ -6,7 +6,7 @@ ghost use Rattle.js_frames.specs.Rules as rule;
 ghost use Rattle.js_frames.specs.Rules.{Within};
 ghost use Rattle.std.specs.Fmt.{decimal};
 ghost use Rattle.std.specs.List.{range_with_len};
-ghost use Rattle.js_statements.specs.Acts.{Acts};
+ghost use Rattle.js_machine.specs.Acts.{Acts};
 ghost use Rattle.js_statements.specs.Loops as spec;
 
 use heap_steps::{Halt, spend};

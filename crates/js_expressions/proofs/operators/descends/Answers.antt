@@ -1,7 +1,5 @@
 use Rattle.std.proofs.Common.{refl}
 use Rattle.js_machine.proofs.Steps.{forgets, works_then, works_stops}
-use Rattle.heap_values.specs.declared.value.Value.TheVariants as value
-use Rattle.js_machine.specs.Moves.{at}
 use Rattle.js_expressions.proofs.operators.descends.Goals as goal
 
 pub returns-in_err-name : goal.returns-in_err-name

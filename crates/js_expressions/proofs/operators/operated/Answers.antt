@@ -1,5 +1,4 @@
 use Rattle.js_machine.proofs.Steps.{works_then, works_stops}
-use Rattle.heap_values.specs.declared.value.Value.TheVariants as value
 use Rattle.js_machine.specs.Moves.{functions_of, inner}
 use Rattle.js_frames.specs.Rules as rule
 use Rattle.js_frames.specs.Parts.{context_of}

@@ -5,7 +5,7 @@ use Rattle.js_frames.specs.Parts.{context_of}
 use Rattle.js_expressions.proofs.operators.right_operand.Goals as goal
 
 pub returns-in-Object : goal.returns-in-Object
-returns-in-Object c = rw c.in-Object.is c.convert.ensures
+returns-in-Object c = rw c.in-Object.is c.right_object.ensures
 
 pub returns : goal.returns
 returns c = rw (is_primitive (rule.call (functions_of c.args.machine.now) (inner c.args.machine.now) (context_of c.args.machine.now.context)) _ _ _ c.in_default.not-Object) c.operated.ensures

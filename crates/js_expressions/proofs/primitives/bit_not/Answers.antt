@@ -2,7 +2,7 @@ use Rattle.std.proofs.Common.{◌≡◌, sym, ap, ◌∙◌, rules}
 use Rattle.js_machine.proofs.Steps.{works_then, works_stops}
 use Rattle.js_native_calls.proofs.Steps.{gives_value}
 use Rattle.heap_values.specs.declared.value.Value.TheVariants as value
-use Rattle.js_machine.specs.Moves.{at, functions_of, inner}
+use Rattle.js_machine.specs.Moves.{functions_of, inner}
 use Rattle.js_frames.specs.Rules as rule
 use Rattle.js_frames.specs.Parts.{context_of}
 use Rattle.std.specs.Prelude.{negsuc, neg_ℤ, ◌-ℤ◌}

@@ -6,7 +6,7 @@ use Rattle.js_native_calls.proofs.Steps.{Carries}
 use Rattle.js_expressions.proofs.rows.operands_from.Given as goal
 
 abbrev pub invariant-loop-left : goal.invariant-loop-left
-invariant-loop-left l = Carries (at l.fn.machine rule.operands_from l.value (operands_of l.operands)) l.fn.machine
+invariant-loop-left l = Carries (at l.fn.machine rule.operands_from l.fn.value (operands_of l.operands)) l.fn.machine
     (at l.machine rule.operands_from l.value (operands_of l.left)) l.machine
 
 abbrev pub decreases-loop-left : goal.decreases-loop-left

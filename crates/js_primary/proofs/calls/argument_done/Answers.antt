@@ -1,6 +1,5 @@
 use Rattle.std.proofs.Common.{refl}
 use Rattle.js_machine.proofs.Steps.{forgets}
-use Rattle.js_machine.specs.Moves.{at}
 use Rattle.js_primary.proofs.calls.argument_done.Goals as goal
 
 pub returns-in_err-push : goal.returns-in_err-push

@@ -1,4 +1,3 @@
-use Rattle.js_machine.specs.Moves.{at}
 use Rattle.js_primary.proofs.creation.called_new.Goals as goal
 
 pub returns : goal.returns

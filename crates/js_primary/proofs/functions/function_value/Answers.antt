@@ -1,8 +1,7 @@
 use Rattle.std.proofs.Common.{sym, ◌∙◌}
 use Rattle.js_native_calls.proofs.Steps.{works_back, works_ends}
 use Rattle.js_primary.proofs.FunctionValues.{found, plain_function, own_function}
-use Rattle.heap_values.specs.declared.value.Value.TheVariants as value
-use Rattle.js_machine.specs.Moves.{at, functions_of, inner}
+use Rattle.js_machine.specs.Moves.{functions_of, inner}
 use Rattle.js_frames.specs.Parts.{context_of}
 use Rattle.js_primary.proofs.functions.function_value.Goals as goal
 

@@ -1,7 +1,6 @@
 use Rattle.std.proofs.Common.{Ok, refl, sym, ap, ◌∙◌}
 use Rattle.js_machine.proofs.Steps.{forgets, works_then, works_stops}
 use Rattle.js_native_calls.proofs.Steps.{works_back}
-use Rattle.heap_values.specs.declared.value.Value.TheVariants as value
 use Rattle.run_trees.specs.Runs.{pure, ◌>>◌}
 use Rattle.heap_values.specs.declared.value.Value.{Value}
 use Rattle.js_evaluation.specs.State.{write_slot}

@@ -1,6 +1,5 @@
 use Rattle.std.proofs.Common.{refl}
 use Rattle.js_machine.proofs.Steps.{forgets, works_then, works_stops}
-use Rattle.js_machine.specs.Moves.{at}
 use Rattle.js_primary.proofs.literals.item_done.Goals as goal
 
 pub returns-in_err-define_at : goal.returns-in_err-define_at

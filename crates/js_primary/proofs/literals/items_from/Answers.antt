@@ -1,5 +1,4 @@
 use Rattle.heap_steps.proofs.Lists.{list_step, list_rest, list_end}
-use Rattle.js_machine.specs.Moves.{at}
 use Rattle.js_primary.proofs.literals.items_from.Goals as goal
 
 pub loop-left-init : goal.loop-left-init

@@ -1,7 +1,6 @@
 use Rattle.std.proofs.Common.{refl}
 use Rattle.js_machine.proofs.Steps.{forgets, works_then, works_stops}
 use Rattle.js_native_calls.proofs.Steps.{gives}
-use Rattle.js_machine.specs.Moves.{at}
 use Rattle.js_primary.proofs.literals.length_written.Goals as goal
 
 pub returns-in_err-name : goal.returns-in_err-name

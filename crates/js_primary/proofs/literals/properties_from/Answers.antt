@@ -1,5 +1,4 @@
 use Rattle.heap_steps.proofs.Lists.{list_step, list_rest}
-use Rattle.js_machine.specs.Moves.{at}
 use Rattle.js_primary.proofs.literals.properties_from.Goals as goal
 
 pub returns-in-len1-up : goal.returns-in-len1-up

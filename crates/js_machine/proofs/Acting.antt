@@ -1,0 +1,215 @@
+-- Parts that do something to the state, and visit nothing that is opened.
+use Rattle.std.proofs.Common.{◌≡◌, ℕ, ℤ, ◌+◌, ◌-◌, ◌<◌, ◌≤◌, ◌⊎◌, List, Option, Some, None, Ok, Err, Result, refl, subst, sym, ap, ◌∙◌, arith, ⊎_elim}
+use Rattle.std.specs.Result.{IsErrAnd}
+use Rattle.js_tree.specs.declared.place.Place.{Place}
+use Rattle.js_tree.specs.declared.bound.BoundName.{BoundName}
+use Rattle.js_tree.specs.Tree.{ExpressionTree, FunctionTree, Name, Number, Characters}
+use Rattle.heap_values.specs.declared.value.Value.{Value}
+use Rattle.heap_values.specs.declared.value.Value.TheVariants as value
+use Rattle.heap_values.specs.Views.{HeapView}
+use Rattle.run_trees.specs.Runs.{pure, ◌>>=◌, ◌>>◌}
+use Rattle.js_evaluation.specs.declared.fault.FaultCode.TheVariants as code
+use Rattle.js_evaluation.specs.State.{Does, fault, test_text}
+use Rattle.js_evaluation.specs.Objects.{Context, read_name}
+use Rattle.js_evaluation.specs.Expressions.{expression_node}
+use Rattle.js_evaluation.specs.Evaluation.{Part, expression_part, target_part, part_place, node, evaluation}
+use Rattle.js_frames.specs.Parts.{context_of}
+use Rattle.js_frames.specs.Rules as rule
+use Rattle.js_frames.specs.Rules.{Within, AfterValue}
+use Rattle.js_frames.specs.RestOf.{room}
+use Rattle.heap_steps.specs.declared.halt.Halt.{Halt}
+use Rattle.heap_steps.specs.declared.halt.Halt.TheVariants as halt
+use Rattle.heap_steps.specs.Works.{Works}
+use Rattle.heap_steps.proofs.Chains.{chained, stops}
+use Rattle.js_machine.specs.declared.machine.Machine.{Machine}
+use Rattle.js_machine.specs.declared.machine.State.{State}
+use Rattle.js_machine.specs.declared.now.Now.{Now}
+use Rattle.js_machine.specs.Moves.{Moves, Light, at, beside_of, functions_of, inner, run_state, weight}
+use Rattle.js_machine.specs.Acts.{Acts}
+use Rattle.js_machine.specs.Leaves.{Reaches}
+use Rattle.js_machine.proofs.Steps.{charge_some, begun_some, begun_none, begun_spent}
+
+-- ---- what comes after such a part
+
+-- the machine with another state
+abbrev pub with_state : Machine → State → Machine
+with_state m s = record m { state = s }
+
+-- with less fuel no more may follow
+lighter : (a b : ℕ) (r : Result Now Halt) (m' : Machine) → a ≤ b → Light a r m' → Light b r m'
+lighter a b (Ok what) m' h k = omega (arith, h, k)
+lighter a b (Err (halt.Throw thrown)) m' h k = omega (arith, h, k)
+lighter a b (Err (halt.Fault c p)) m' h k = tt
+lighter a b (Err (halt.LeftOut n p)) m' h k = tt
+lighter a b (Err halt.Memory) m' h k = tt
+
+module _ {A : Type 0} (part : Does A) (next : A → Does Value) (m : Machine) (s : State) where
+  pub acts_then : (v : A) (r : Result Now Halt) (m' : Machine)
+      → Acts part m.state (Ok v) s → Moves (next v) (with_state m s) r m' → Moves (part >>= next) m r m'
+  acts_then v (Ok what) m' w k = record { goes = λ last. w.is _ ∙ k.goes last; light = lighter (weight (with_state m s) + 3) (weight m + 3) (Ok what) m' (omega (arith, w.less)) k.light }
+  acts_then v (Err (halt.Throw thrown)) m' w k = record { goes = λ last. w.is _ ∙ k.goes last; light = lighter (weight (with_state m s) + 3) (weight m + 3) (Err (halt.Throw thrown)) m' (omega (arith, w.less)) k.light }
+  acts_then v (Err (halt.Fault c p)) m' w k = record { goes = λ last. w.is _ ∙ k.goes last; light = tt }
+  acts_then v (Err (halt.LeftOut n p)) m' w k = record { goes = λ last. w.is _ ∙ k.goes last; light = tt }
+  acts_then v (Err halt.Memory) m' w k = record { goes = λ last. tt; light = tt }
+
+  acts_short : (e : Halt) → Acts part m.state (Err e) s → Moves (part >>= next) m (Err e) (with_state m s)
+  acts_short (halt.Throw thrown) w = record { goes = λ last. w.is _; light = omega (arith, w.less) }
+  acts_short (halt.Fault c p) w = record { goes = λ last. w.is _; light = tt }
+  acts_short (halt.LeftOut n p) w = record { goes = λ last. w.is _; light = tt }
+  acts_short halt.Memory w = record { goes = λ last. tt; light = tt }
+
+  -- where it stops, so does the rule
+  pub acts_stops : (r : Result Now Halt) (e : Halt) → IsErrAnd r (λ x. x ≡ e) → Acts part m.state (Err e) s
+      → Moves (part >>= next) m r (with_state m s)
+  acts_stops (Ok what) e i w = absurd i
+  acts_stops (Err x) e i w = subst (λ y. Moves (part >>= next) m (Err y) (with_state m s)) (sym i) (acts_short e w)
+
+-- ---- a part that may be had, and what comes after it from the machine that it leaves
+
+module _ (part : Does Value) (next : List FunctionTree → Within → Context → Value → Does Value) (m m₁ : Machine) where
+  pub reached_then : (v : Value) (r : Result Now Halt) (m' : Machine) → Reaches part m (Ok (Some v)) m₁
+      → Moves (at m₁ next v) m₁ r m' → Moves (part >>= at m next) m r m'
+  reached_then v r m' k goes =
+      acts_then part (at m next) m k.state v r m' k.had (subst (λ (x : Machine). Moves (at x next v) x r m') k.same goes)
+
+  pub reached_stops : (r : Result Now Halt) (e : Halt) → IsErrAnd r (λ x. x ≡ e) → Reaches part m (Err e) m₁ → Moves (part >>= at m next) m r m₁
+  reached_stops r e i k = subst (λ (x : Machine). Moves (part >>= at m next) m r x) (sym k.same) (acts_stops part (at m next) m k.state r e i k.had)
+
+-- where nothing is told, nothing is done
+module _ (part : Does Value) (rule : List FunctionTree → Within → Context → Does Value) (m m₁ : Machine) where
+  pub not_reached : (r : Result Now Halt) (m' : Machine) → Reaches part m (Ok None) m₁ → Moves (at m₁ rule) m₁ r m' → Moves (at m rule) m r m'
+  not_reached r m' k goes = subst (λ (x : Machine). Moves (at x rule) x r m') (k.same ∙ ap (with_state m) k.had) goes
+
+-- ---- a part that is charged and begun at once
+
+module _ (functions : List FunctionTree) (n : ℕ) (part : Part) (s : State) where
+  abbrev charged_state : ℕ → State
+  charged_state less = record s { fuel = less }
+
+  -- no fuel is left, or no room
+  pub enters_not : (e : Halt) (s' : State)
+      → ((e ≡ halt.Fault code.FuelSpent (part_place part)) × (s.fuel ≡ 0)) ⊎ ((e ≡ halt.Fault code.TooDeep (part_place part)) × (0 < s.fuel) × (n ≡ 0))
+      → Acts (evaluation functions n part) s (Err e) s'
+  enters_not e s' why = ⊎_elim
+      (λ spent. subst (λ x. Acts (evaluation functions n part) s (Err x) s') (sym spent.0) (record {
+        is = λ after. ap (λ f. evaluation functions n part after (run_state (charged_state f))) spent.1 ∙ begun_spent functions n part after s.heap (beside_of s);
+        less = tt;
+      }))
+      (λ deep. subst (λ x. Acts (evaluation functions n part) s (Err x) s') (sym deep.0) (record {
+        is = λ after.
+            ap (λ (p : Does Value). p after (run_state s)) (begun_none functions n part deep.2)
+            ∙ charge_some (part_place part) (fault code.TooDeep (part_place part)) after s.heap s.fuel (s.fuel - 1) (beside_of s) (omega (arith, deep.1));
+        less = tt;
+      }))
+      why
+
+  module _ (less : ℕ) (taken : less + 1 ≡ s.fuel) (some : 0 < n) where
+    entered : (after : AfterValue) → evaluation functions n part after (run_state s) ≡ node functions (evaluation functions (n - 1)) part after (run_state (charged_state less))
+    entered after =
+        ap (λ (p : Does Value). p after (run_state s)) (begun_some functions n part some)
+        ∙ charge_some (part_place part) (node functions (evaluation functions (n - 1)) part) after s.heap s.fuel less (beside_of s) taken
+
+    enters_node : (r : Result Value Halt) (h : HeapView) → Works (node functions (evaluation functions (n - 1)) part) s.heap r h
+        → Acts (evaluation functions n part) s r (record s { fuel = less; heap = h })
+    enters_node (Ok v) h w = record { is = λ after. entered after ∙ w.is after less (beside_of s); less = omega (arith, taken) }
+    enters_node (Err (halt.Throw thrown)) h w = record { is = λ after. entered after ∙ w.is after less (beside_of s); less = omega (arith, taken) }
+    enters_node (Err (halt.Fault c p)) h w = record { is = λ after. entered after ∙ w.is after less (beside_of s); less = tt }
+    enters_node (Err (halt.LeftOut name p)) h w = record { is = λ after. entered after ∙ w.is after less (beside_of s); less = tt }
+    enters_node (Err halt.Memory) h w = record { is = tt; less = tt }
+
+    -- what the part does behind its charge to the heap
+    pub enters : (body : Does Value) → node functions (evaluation functions (n - 1)) part ≡ body → (r : Result Value Halt) (h : HeapView) → Works body s.heap r h
+        → Acts (evaluation functions n part) s r (record s { fuel = less; heap = h })
+    enters body is r h w = enters_node r h (subst (λ (x : Does Value). Works x s.heap r h) (sym is) w)
+
+-- ---- the nodes that visit nothing
+
+module _ (functions : List FunctionTree) (go : Part → Does Value) (cx : Context) (p : Place) where
+  node_name : (x : BoundName) → node functions go (expression_part cx (Name p x)) ≡ read_name cx x p
+  unfolding expression_node
+  node_name x = refl
+
+  node_number : (n : ℤ) → node functions go (expression_part cx (Number p n)) ≡ pure (value.Number n)
+  unfolding expression_node
+  node_number n = refl
+
+  node_text : (t : List ℕ) → node functions go (expression_part cx (Characters p t)) ≡ (test_text t p >> pure (value.Text t))
+  unfolding expression_node
+  node_text t = refl
+
+  node_target : (x : BoundName) → node functions go (target_part cx (Name p x)) ≡ pure value.Undefined
+  node_target x = refl
+
+-- a part that gives a value at once
+pure_works : (v : Value) (h : HeapView) → Works (pure v) h (Ok v) h
+pure_works v h = record { is = λ after fuel beside. refl }
+
+-- ---- a machine that has such a part
+
+-- why a part is not entered
+abbrev pub IsOutside : Machine → Place → Halt → Type 0
+IsOutside m p e = ((e ≡ halt.Fault code.FuelSpent p) × (m.state.fuel ≡ 0)) ⊎ ((e ≡ halt.Fault code.TooDeep p) × (0 < m.state.fuel) × (room m.frames - 1 ≡ 0))
+
+module _ (m : Machine) (part : Part) where
+  pub stays_outside : (s : State) (r : Result (Option Value) Halt) (e : Halt) → IsErrAnd r (λ x. x ≡ e) → IsOutside m (part_place part) e → Reaches (inner m part) m r (with_state m s)
+  stays_outside s (Ok v) e i why = absurd i
+  stays_outside s (Err x) e i why = subst (λ (y : Halt). Reaches (inner m part) m (Err y) (with_state m s)) (sym i)
+      (record { state = s; same = refl; had = enters_not (functions_of m) (room m.frames - 1) part m.state e s why })
+
+  module _ (body : Does Value) (is : node (functions_of m) (evaluation (functions_of m) (room m.frames - 1 - 1)) part ≡ body) (less : ℕ) (taken : less + 1 ≡ m.state.fuel) (some : 0 < room m.frames - 1) (h : HeapView) where
+    abbrev after_it : State
+    after_it = record m.state { fuel = less; heap = h }
+
+    pub has_value : (v : Value) → Works body m.state.heap (Ok v) h → Reaches (inner m part) m (Ok (Some v)) (with_state m after_it)
+    has_value v w = record { state = after_it; same = refl; had = enters (functions_of m) (room m.frames - 1) part m.state less taken some body is (Ok v) h w }
+
+    pub has_none : (r : Result (Option Value) Halt) (e : Halt) → IsErrAnd r (λ x. x ≡ e) → Works body m.state.heap (Err e) h → Reaches (inner m part) m r (with_state m after_it)
+    has_none (Ok v) e i w = absurd i
+    has_none (Err x) e i w = subst (λ (y : Halt). Reaches (inner m part) m (Err y) (with_state m after_it)) (sym i)
+        (record { state = after_it; same = refl; had = enters (functions_of m) (room m.frames - 1) part m.state less taken some body is (Err e) h w })
+
+-- by what they are
+module _ (m : Machine) (p : Place) (less : ℕ) (taken : less + 1 ≡ m.state.fuel) (some : 0 < room m.frames - 1) where
+  -- what is made of the parts within such a part, of which there are none
+  abbrev below : Part → Does Value
+  below = evaluation (functions_of m) (room m.frames - 1 - 1)
+
+  abbrev behind : HeapView → Machine
+  behind h = with_state m (record m.state { fuel = less; heap = h })
+
+  pub name_has : (x : BoundName) (h : HeapView) (v : Value) → Works (read_name (context_of m.context) x p) m.state.heap (Ok v) h
+      → Reaches (at m rule.visit (Name p x)) m (Ok (Some v)) (behind h)
+  name_has x h v w = has_value m (expression_part (context_of m.context) (Name p x)) (read_name (context_of m.context) x p)
+      (node_name (functions_of m) below (context_of m.context) p x) less taken some h v w
+
+  pub name_stops : (x : BoundName) (h : HeapView) (r : Result (Option Value) Halt) (e : Halt) → IsErrAnd r (λ x. x ≡ e)
+      → Works (read_name (context_of m.context) x p) m.state.heap (Err e) h → Reaches (at m rule.visit (Name p x)) m r (behind h)
+  name_stops x h r e i w = has_none m (expression_part (context_of m.context) (Name p x)) (read_name (context_of m.context) x p)
+      (node_name (functions_of m) below (context_of m.context) p x) less taken some h r e i w
+
+  pub number_has : (n : ℤ) → Reaches (at m rule.visit (Number p n)) m (Ok (Some (value.Number n))) (behind m.state.heap)
+  number_has n = has_value m (expression_part (context_of m.context) (Number p n)) (pure (value.Number n))
+      (node_number (functions_of m) below (context_of m.context) p n) less taken some m.state.heap (value.Number n) (pure_works (value.Number n) m.state.heap)
+
+  pub text_has : (t : List ℕ) → Works (test_text t p) m.state.heap (Ok tt) m.state.heap
+      → Reaches (at m rule.visit (Characters p t)) m (Ok (Some (value.Text t))) (behind m.state.heap)
+  text_has t w = has_value m (expression_part (context_of m.context) (Characters p t)) (test_text t p >> pure (value.Text t))
+      (node_text (functions_of m) below (context_of m.context) p t) less taken some m.state.heap (value.Text t)
+      (chained _ _ _ _ tt _ _ w (pure_works (value.Text t) m.state.heap))
+
+  pub text_stops : (t : List ℕ) (r : Result (Option Value) Halt) (e : Halt) → IsErrAnd r (λ x. x ≡ e) → Works (test_text t p) m.state.heap (Err e) m.state.heap
+      → Reaches (at m rule.visit (Characters p t)) m r (behind m.state.heap)
+  text_stops t r e i w = has_none m (expression_part (context_of m.context) (Characters p t)) (test_text t p >> pure (value.Text t))
+      (node_text (functions_of m) below (context_of m.context) p t) less taken some m.state.heap r e i (stops _ _ _ _ (Err e) e refl w)
+
+  pub target_has : (x : BoundName) → Reaches (at m rule.visit_target (Name p x)) m (Ok (Some value.Undefined)) (behind m.state.heap)
+  target_has x = has_value m (target_part (context_of m.context) (Name p x)) (pure value.Undefined)
+      (node_target (functions_of m) below (context_of m.context) p x) less taken some m.state.heap value.Undefined (pure_works value.Undefined m.state.heap)
+
+-- what is said of a node is said of the expression that it is
+module _ (m : Machine) (r : Result (Option Value) Halt) (m' : Machine) (node e : ExpressionTree) (is : node ≡ e) where
+  pub value_of : Reaches (at m rule.visit node) m r m' → Reaches (at m rule.visit e) m r m'
+  value_of k = subst (λ (x : ExpressionTree). Reaches (at m rule.visit x) m r m') is k
+
+  pub target_of : Reaches (at m rule.visit_target node) m r m' → Reaches (at m rule.visit_target e) m r m'
+  target_of k = subst (λ (x : ExpressionTree). Reaches (at m rule.visit_target x) m r m') is k

@@ -1,0 +1,13 @@
+use Rattle.std.proofs.Common.{length}
+use Rattle.js_tree.specs.Tree.{expressions_of}
+use Rattle.js_machine.specs.Moves.{at}
+use Rattle.js_native_calls.proofs.Steps.{Carries}
+use Rattle.js_primary.specs.Calls as spec
+use Rattle.js_primary.proofs.calls.arguments_from.Given as goal
+
+abbrev pub invariant-loop-left : goal.invariant-loop-left
+invariant-loop-left l = Carries (at l.fn.machine spec.arguments_from l.aim l.fn.this l.fn.callee l.fn.done (expressions_of l.fn.left) l.place l.rest) l.fn.machine
+    (at l.machine spec.arguments_from l.aim l.this l.callee l.done (expressions_of l.left) l.place l.rest) l.machine
+
+abbrev pub decreases-loop-left : goal.decreases-loop-left
+decreases-loop-left l = length l.left
