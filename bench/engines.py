@@ -12,6 +12,8 @@ import time
 TOP = os.path.dirname(os.path.dirname(os.path.abspath(__file__)))
 PAC = os.path.join(TOP, "crates", "pac_main", "out", "pac_main")
 MOMENT = "1700000000"
+URL, HOST = "http://www.example.org/news/today", "www.example.org"
+FUEL = "1000000000"
 
 HELPERS = r"""
 var NOW = new Date(MOMENT * 1000);
@@ -81,6 +83,13 @@ def written(folder, name, text):
     with open(path, "w", encoding="ascii") as file:
         file.write(text)
     return path
+
+
+def one_call(folder, script, found):
+    """The words that run a script for one URL in the program and in each engine, which prints the result."""
+    theirs = written(folder, "called.js", f"{script}print(FindProxyForURL('{URL}', '{HOST}'));\n")
+    ours = [program(), "resolve", written(folder, "script.pac", script), URL, "--fuel", FUEL]
+    return [ours, *([path, theirs] for path in found.values())]
 
 
 def run(words):
