@@ -102,13 +102,10 @@ pub fn suffixes_from<'p>(
         if is_last(aim, rest) {
             return last_of_target(machine, value, suffix);
         }
-        match &suffix.node {
+        let found = match &suffix.node {
             SuffixNode::Member(name) => {
                 let heap = &mut machine.state.heap;
-                let found = member(machine.alloc, heap, &value, name, place)?;
-                this = value;
-                value = found;
-                left = rest;
+                member(machine.alloc, heap, &value, name, place)?
             }
             SuffixNode::Index(e) => {
                 let Some(key) = machine.leaf(e)? else {
@@ -120,17 +117,17 @@ pub fn suffixes_from<'p>(
                     }
                     key => {
                         let heap = &mut machine.state.heap;
-                        let found = element(machine.alloc, heap, &value, &key, place)?;
-                        this = value;
-                        value = found;
-                        left = rest;
+                        element(machine.alloc, heap, &value, &key, place)?
                     }
                 }
             }
             SuffixNode::Call(all) => {
                 return first_arguments(machine, aim, this, value, all, place, rest);
             }
-        }
+        };
+        this = value;
+        value = found;
+        left = rest;
     }
     behind_suffixes(machine, aim, this, value)
 }

@@ -2,6 +2,7 @@ use Rattle.std.proofs.Common.{drop, sym, ◌∙◌}
 use Rattle.heap_steps.proofs.Lists.{list_step, list_rest, list_end}
 use Rattle.js_expressions.proofs.SuffixSteps.{spent_suffix, last_charged, next_charged, member_then, member_stops, index_then, index_stops, index_visited, element_then, element_stops}
 use Rattle.js_expressions.proofs.suffixes.suffixes_from.Goals as goal
+use Rattle.js_expressions.proofs.suffixes.suffixes_from.Goals.{in-Member+in_ok-found-in-Member, in-Index+in_ok-key-in-Index+in-Some+in_default-key+in_ok-found-in_default-key}
 
 pub loop-left-init : goal.loop-left-init
 loop-left-init c = λ r m k. k
@@ -14,9 +15,6 @@ returns-then-is_last c = c.loop-left.invariant _ _ (rw (list_step _ _ c.suffix-i
 
 pub returns-in_err-found-in-Member : goal.returns-in_err-found-in-Member
 returns-in_err-found-in-Member c = c.loop-left.invariant _ _ (rw (list_step _ _ c.suffix-item.is c.in-len1-up.len_at_least) (next_charged c.loop-left.machine _ _ _ _ _ _ _ c.in_ok-charge.ensures.ok _ _ (rw (list_rest c.loop-left.left.now) at (sym c.is_last.ensures ∙ c.if-is_last.false)) (rw c.in-Member.is (member_stops _ c.args.aim c.loop-left.this c.loop-left.value c.suffix-item.result.place c.in-Member.name (drop 1 c.loop-left.left.now) _ _ _ c.from_residual-in_err-found-in-Member.ensures.1 c.in_err-found-in-Member.ensures))))
-
-pub loop-left-preserved-in-Member : goal.loop-left-preserved-in-Member
-loop-left-preserved-in-Member c = λ r m k. c.loop-left.invariant r m (rw (list_step _ _ c.suffix-item.is c.in-len1-up.len_at_least) (next_charged c.loop-left.machine _ _ _ _ _ _ _ c.in_ok-charge.ensures.ok _ _ (rw (list_rest c.loop-left.left.now) at (sym c.is_last.ensures ∙ c.if-is_last.false)) (rw c.in-Member.is (member_then _ c.args.aim c.loop-left.this c.loop-left.value c.suffix-item.result.place c.in-Member.name (drop 1 c.loop-left.left.now) _ _ _ _ c.in_ok-found-in-Member.ensures (rw (list_rest c.loop-left.left.now) at k)))))
 
 pub returns-in_err-key-in-Index : goal.returns-in_err-key-in-Index
 returns-in_err-key-in-Index c = c.loop-left.invariant _ _ (rw (list_step _ _ c.suffix-item.is c.in-len1-up.len_at_least) (next_charged c.loop-left.machine _ _ _ _ _ _ _ c.in_ok-charge.ensures.ok _ _ (rw (list_rest c.loop-left.left.now) at (sym c.is_last.ensures ∙ c.if-is_last.false))
@@ -34,15 +32,15 @@ pub returns-in_err-found-in_default-key : goal.returns-in_err-found-in_default-k
 returns-in_err-found-in_default-key c = c.loop-left.invariant _ _ (rw (list_step _ _ c.suffix-item.is c.in-len1-up.len_at_least) (next_charged c.loop-left.machine _ _ _ _ _ _ _ c.in_ok-charge.ensures.ok _ _ (rw (list_rest c.loop-left.left.now) at (sym c.is_last.ensures ∙ c.if-is_last.false))
     (rw c.in-Index.is (element_stops _ c.leaf.new.self c.args.aim c.loop-left.this c.loop-left.value c.suffix-item.result.place c.in-Index.e (drop 1 c.loop-left.left.now) _ _ c.in_default-key.not-Object (rw c.in-Some.is at c.in_ok-key-in-Index.ensures) _ _ c.from_residual-in_err-found-in_default-key.ensures.1 c.in_err-found-in_default-key.ensures))))
 
-pub loop-left-preserved-in_ok-found-in_default-key : goal.loop-left-preserved-in_ok-found-in_default-key
-loop-left-preserved-in_ok-found-in_default-key c = λ r m k. c.loop-left.invariant r m (rw (list_step _ _ c.suffix-item.is c.in-len1-up.len_at_least) (next_charged c.loop-left.machine _ _ _ _ _ _ _ c.in_ok-charge.ensures.ok _ _ (rw (list_rest c.loop-left.left.now) at (sym c.is_last.ensures ∙ c.if-is_last.false))
-    (rw c.in-Index.is (element_then _ c.leaf.new.self c.args.aim c.loop-left.this c.loop-left.value c.suffix-item.result.place c.in-Index.e (drop 1 c.loop-left.left.now) r _ c.in_default-key.not-Object (rw c.in-Some.is at c.in_ok-key-in-Index.ensures)
-    _ _ m c.in_ok-found-in_default-key.ensures (rw (list_rest c.loop-left.left.now) at k)))))
-
 pub loop-left-preserved : goal.loop-left-preserved
 loop-left-preserved c = λ r m k. c.loop-left.invariant r m (rw (list_step _ _ c.suffix-item.is c.in-len1-up.len_at_least) (next_charged c.loop-left.machine _ _ _ _ _ _ _ c.in_ok-charge.ensures.ok _ _ (rw (list_rest c.loop-left.left.now) at (sym c.is_last.ensures ∙ c.if-is_last.false))
-    (rw c.in-Index.is (element_then _ c.leaf.new.self c.args.aim c.loop-left.this c.loop-left.value c.suffix-item.result.place c.in-Index.e (drop 1 c.loop-left.left.now) r _ c.in_default-key.not-Object (rw c.in-Some.is at c.in_ok-key-in-Index.ensures)
-    _ _ m c.in_ok-found-in_default-key.ensures (rw (list_rest c.loop-left.left.now) at k)))))
+    (elim c.match-suffix.branch [
+      | in-Member+in_ok-found-in-Member w ↦ rw w.in-Member.is (member_then _ c.args.aim c.loop-left.this c.loop-left.value c.suffix-item.result.place w.in-Member.name (drop 1 c.loop-left.left.now) _ _ r m w.in_ok-found-in-Member.ensures
+          (rw (list_rest c.loop-left.left.now, w.machine-is, w.found-is) at k))
+      | in-Index+in_ok-key-in-Index+in-Some+in_default-key+in_ok-found-in_default-key w ↦ rw w.in-Index.is (element_then _ w.leaf.new.self c.args.aim c.loop-left.this c.loop-left.value c.suffix-item.result.place w.in-Index.e (drop 1 c.loop-left.left.now) r
+          _ w.in_default-key.not-Object (rw w.in-Some.is at w.in_ok-key-in-Index.ensures) _ _ m w.in_ok-found-in_default-key.ensures
+          (rw (list_rest c.loop-left.left.now, w.machine-is, w.found-is) at k))
+    ])))
 
 pub returns-in-Call : goal.returns-in-Call
 returns-in-Call c = c.loop-left.invariant _ _ (rw (list_step _ _ c.suffix-item.is c.in-len1-up.len_at_least) (next_charged c.loop-left.machine _ _ _ _ _ _ _ c.in_ok-charge.ensures.ok _ _ (rw (list_rest c.loop-left.left.now) at (sym c.is_last.ensures ∙ c.if-is_last.false)) (rw c.in-Call.is (rw (list_rest c.loop-left.left.now) at c.first_arguments.ensures))))
