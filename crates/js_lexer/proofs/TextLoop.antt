@@ -1,6 +1,9 @@
 -- A text as a loop reads it.
 use Rattle.std.proofs.Common.{◌≡◌, ℕ, suc, ◌+◌, ◌-◌, ◌<◌, ◌≤◌, List, [], ◌∷◌, ◌++◌, length, drop, length-drop, true, false, Option, option_to_list, nat_eq, Result, Ok, Err, refl, sym, ap, ◌∙◌, append_assoc, zero-add, arith}
 use Rattle.std.proofs.lemmas.List.{append-nil}
+use Rattle.std.specs.Prelude.{Bool, Some, not, ◌&&◌, take, cond}
+use Rattle.std.specs.List.{prefix_len}
+use Rattle.js_lexer.specs.Texts.{is_plain}
 use Rattle.utf16_text.specs.Letters.{is_break_unit}
 use Rattle.js_tree.specs.declared.refusal.ReadKind.{ReadKind}
 use Rattle.js_tree.specs.declared.refusal.ReadKind.TheVariants.{BadToken}
@@ -83,3 +86,46 @@ module _ (quote : ℕ) (text : List ℕ) (n : ℕ) (rest units : List ℕ) (s : 
   fails u us kind front open_still inline is =
       let closing : (text_from (suc (s.fuel - 1)) quote rest >>= in_front text n) ≡ Err kind = rw (front, open_still, inline, is) refl in
       sym whole ∙ closing
+
+-- ---- units that stand for themselves, one after another
+
+three_false : (a b c : Bool) → (not a && not b && not c) ≡ true → (a ≡ false) × (b ≡ false) × (c ≡ false)
+three_false true b c h = cc
+three_false false true c h = cc
+three_false false false true h = cc
+three_false false false false h = (refl, refl, refl)
+
+module _ (quote : ℕ) (units : List ℕ) where
+  -- what was read up to some units, and then so many of them that stand for themselves
+  abbrev Past : List ℕ → ℕ → List ℕ → ℕ → Type 0
+  Past text n rest k = TextSoFar quote (text ++ take k rest) (n + k) (drop k rest) units
+
+  one_plain : (u : ℕ) (us text : List ℕ) (n : ℕ) → is_plain quote u ≡ true → TextSoFar quote text n (u ∷ us) units → TextSoFar quote (text ++ u ∷ []) (n + 1) us units
+  one_plain u us text n plain s =
+      let three = three_false (nat_eq u quote) (nat_eq u 92) (is_break_unit u) plain in
+      let itself : character_at u us ≡ Ok (Some u, 1) = rw three.1 refl in
+      goes_on quote text n (u ∷ us) units s u 1 us (Some u) (text ++ u ∷ []) refl three.0 three.2 itself (omega arith) (omega arith) refl
+
+  first_plain : (u : ℕ) (us text : List ℕ) (n : ℕ) (b : Bool) → is_plain quote u ≡ b → TextSoFar quote text n (u ∷ us) units
+      → ((text' : List ℕ) (n' : ℕ) → TextSoFar quote text' n' us units → Past text' n' us (prefix_len (is_plain quote) us))
+      → Past text n (u ∷ us) (cond b (1 + prefix_len (is_plain quote) us) 0)
+  first_plain u us text n true plain s others =
+      let k = prefix_len (is_plain quote) us in
+      let next : 1 + k ≡ suc k = omega arith in
+      let sum : n + 1 + k ≡ n + suc k = omega arith in
+      rw next (rw (sum, append_assoc text (u ∷ []) (take k us)) at (others (text ++ u ∷ []) (n + 1) (one_plain u us text n plain s)))
+  first_plain u us text n false plain s others =
+      let same : n + 0 ≡ n = omega arith in
+      rw (append-nil text, same) s
+
+  pub goes_past : (rest text : List ℕ) (n : ℕ) → TextSoFar quote text n rest units → Past text n rest (prefix_len (is_plain quote) rest)
+  goes_past [] text n s =
+      let same : n + 0 ≡ n = omega arith in
+      rw (append-nil text, same) s
+  goes_past (u ∷ us) text n s = first_plain u us text n (is_plain quote u) refl s (λ text' n' s'. goes_past us text' n' s')
+
+  -- the same of a loop that puts them at the end at once
+  pub put_at_once : (rest text : List ℕ) (n k : ℕ) (front back text' : List ℕ) → TextSoFar quote text n rest units → k ≡ prefix_len (is_plain quote) rest
+      → front ≡ take k rest → back ≡ drop k rest → length front ≡ k → text' ≡ text ++ front → TextSoFar quote text' (n + length front) back units
+  put_at_once rest text n k front back text' s is taken left long put =
+      rw (put, long, left, taken, is) (goes_past rest text n s)

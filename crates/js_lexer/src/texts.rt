@@ -4,6 +4,8 @@ ghost use Rattle.js_grammar.specs.Reading.{Gives};
 ghost use Rattle.js_grammar.specs.Literals as spec;
 ghost use Rattle.js_grammar.specs.Tokens.{at_place};
 ghost use Rattle.js_tree.specs.declared.refusal.ReadAnswer.TheVariants as answers;
+ghost use Rattle.js_lexer.specs.Texts.{is_plain};
+ghost use Rattle.std.specs.List.{prefix_len};
 
 use crate::units::{begins_digit, begins_with, behind, front, hexadecimal_length};
 use js_tree::{Place, ReadAnswer, ReadKind};
@@ -101,6 +103,10 @@ pub fn text_at(
     let mut rest = units;
     let mut length = 0;
     'characters: loop {
+        let (plain, behind_plain) = rest.split_at(plain_length(quote, rest));
+        text.extend_from_slice(plain)?;
+        length += plain.len();
+        rest = behind_plain;
         let Some((unit, others)) = rest.split_first() else {
             return Err(ReadAnswer::Refused(ReadKind::BadToken, place));
         };
@@ -116,6 +122,24 @@ pub fn text_at(
         length += count;
         rest = behind(rest, count);
     }
+}
+
+/// How many units in front stand for themselves in a text.
+fn plain_length(quote: u16, units: &[u16]) -> usize
+    ensures value { result ≡ prefix_len (is_plain quote) units.now }
+    ensures within { result ≤ length units.now }
+{
+    units
+        .iter()
+        .take_while(|unit| is_plain(quote, **unit))
+        .count()
+}
+
+/// Whether a unit stands for itself in a text: it is no quote, no `\` and no line terminator.
+fn is_plain(quote: u16, unit: u16) -> bool
+    ensures { result ≡ is_plain quote unit }
+{
+    unit != quote && unit != BACKSLASH && !is_line_terminator(unit)
 }
 
 /// The unit that a character of a text gives, or none, and how many units it has: itself, or what stands behind `\`.
