@@ -1,6 +1,7 @@
 pub mod Comments
 pub mod Digits
 pub mod LexLoop
+pub mod Lines
 pub mod Placed
 pub mod TextLoop
 mod Keywords

@@ -142,18 +142,16 @@ pub fn place_after(place: Place, units: &[u16]) -> Place
     let mut line = place.line;
     let mut column = place.column;
     let mut rest = units;
-    while let [unit, others @ ..] = rest {
-        if *unit == CARRIAGE_RETURN && begins_with(LINE_FEED, others) {
-            rest = others;
-            continue;
-        }
-        if is_line_terminator(*unit) {
+    loop {
+        let count = inline_length(rest);
+        column += count as u32;
+        let [end, others @ ..] = behind(rest, count) else {
+            return Place { line, column };
+        };
+        if *end != CARRIAGE_RETURN || !begins_with(LINE_FEED, others) {
             line += 1;
             column = 1;
-        } else {
-            column += 1;
         }
         rest = others;
     }
-    Place { line, column }
 }

@@ -1,5 +1,5 @@
 -- The binary levels one after another, the strongest first.
-use Rattle.std.proofs.Common.{◌≡◌, ℕ, zero, suc, ◌+◌, ◌-◌, ◌<◌, List, Result, Ok, Err, refl, subst, arith}
+use Rattle.std.proofs.Common.{◌≡◌, ℕ, zero, suc, ◌+◌, ◌-◌, ◌<◌, List, [], None, Result, Ok, Err, refl, subst, arith}
 use Rattle.js_tree.specs.declared.place.Place.{Place}
 use Rattle.js_tree.specs.declared.token.Token.{Token}
 use Rattle.js_tree.specs.declared.refusal.ReadAnswer.{ReadAnswer}
@@ -8,7 +8,8 @@ use Rattle.js_tree.specs.declared.expression.Operand.{Operand}
 use Rattle.js_tree.specs.Tree.{ExpressionTree}
 use Rattle.js_grammar.specs.declared.form.Form.{Form}
 use Rattle.js_grammar.specs.Reading.{Refusal, Fails}
-use Rattle.js_grammar.specs.Readers.{row, place_at}
+use Rattle.js_grammar.specs.Readers.{row, row_of, place_at}
+use Rattle.js_grammar.specs.Operators.{next_binary}
 use Rattle.js_grammar.specs.Expressions.{Deeper, unary, an_operand, chained, chain, level}
 
 module _ (end : Place) (d : Deeper) (form : Form) (ts : List Token) where
@@ -24,6 +25,18 @@ module _ (end : Place) (d : Deeper) (form : Form) (ts : List Token) where
   goes_up k n next v rest os after e f =
       let same : suc k ≡ n = omega arith in
       goes_to (suc k) n (Ok (chained (place_at end ts) v os, after)) same (one_more k v rest os after e f)
+
+  none_added : (k : ℕ) (v : ExpressionTree) (rest : List Token) → next_binary form rest ≡ None → row (an_operand end form k (level end d form k)) rest ≡ Ok ([], rest)
+  unfolding row_of an_operand
+  none_added k v rest none = rw none refl
+
+  -- without an operator behind it, what a level reads is what each level above reads
+  pub stands_above : (gap k n : ℕ) (v : ExpressionTree) (rest : List Token) → n ≡ k + gap → next_binary form rest ≡ None → level end d form k ts ≡ Ok (v, rest) → level end d form n ts ≡ Ok (v, rest)
+  stands_above zero k n v rest is none e =
+      let same : k ≡ n = omega arith in
+      goes_to k n (Ok (v, rest)) same e
+  stands_above (suc gap) k n v rest is none e =
+      stands_above gap (suc k) n v rest (omega arith) none (one_more k v rest [] rest e (none_added k v rest none))
 
   operand_fails : (k : ℕ) (v : ExpressionTree) (rest : List Token) (x : Refusal) → level end d form k ts ≡ Ok (v, rest) → row (an_operand end form k (level end d form k)) rest ≡ Err x → level end d form (suc k) ts ≡ Err x
   unfolding level chain

@@ -14,7 +14,7 @@ use js_grammar::{Form, LeftSide, Turn};
 use js_lexer::keyword_of;
 use js_reading::{
     Read, chained, expect, in_function, is_accessor, is_target, joined, next_assign, next_at_level,
-    next_name, next_postfix, next_sign, next_unary, next_update, place_at, read_name,
+    next_binary, next_name, next_postfix, next_sign, next_unary, next_update, place_at, read_name,
     read_parameters, read_word, refused, refused_word, rest_of, row, suffixed_by, unbound,
 };
 use js_tree::{
@@ -449,6 +449,10 @@ impl<N: Nested> Parser<N> {
         let place = place_at(self.end, tokens);
         let (mut value, mut rest) = self.unary(tokens)?;
         for below in 0..level {
+            // Without an operator here no level above has one.
+            if next_binary(form, rest).is_none() {
+                return Ok((value, rest));
+            }
             let (others, after) = self.operands(form, below, rest)?;
             value = chained(self.alloc, place, value, others)?;
             rest = after;

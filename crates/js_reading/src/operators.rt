@@ -122,7 +122,8 @@ fn binary_word(form: Form, keyword: Option<Keyword>) -> Option<BinaryOp>
     }
 }
 
-fn next_binary(form: Form, tokens: &[Token]) -> Option<BinaryOp>
+/// The binary operator that comes next.
+pub fn next_binary(form: Form, tokens: &[Token]) -> Option<BinaryOp>
     ensures { result ≡ spec.next_binary form tokens.now }
 {
     match tokens {
