@@ -76,7 +76,7 @@ pub fn target_done<'p>(
     }
 }
 
-/// Visits the value of `=`.
+/// Has the value of `=`, which is then written.
 fn target_set<'p>(
     machine: &mut Machine<'p>,
     reference: Reference<'p>,
@@ -94,7 +94,7 @@ fn target_set<'p>(
     }
 }
 
-/// Reads the target of an assignment with an operator, and then visits the value.
+/// Reads the target of an assignment with an operator, and then has the value.
 fn target_read<'p>(
     machine: &mut Machine<'p>,
     op: BinaryOp,

@@ -116,10 +116,8 @@ impl<'p> Frames<'p> {
         if self.len() >= MOST_OPEN {
             return Some(part);
         }
-        match self.parts.push(part) {
-            Ok(()) => None,
-            Err(back) => Some(back.value),
-        }
+        self.parts.push_reserved(part);
+        None
     }
 
     /// Closes the innermost part. None exactly where none is open.

@@ -4,6 +4,7 @@ ghost use Rattle.js_grammar.specs.Reading.{Gives};
 ghost use Rattle.js_grammar.specs.Tokens.{line_ended, piece_tokens, tokens_of};
 
 use crate::pieces::piece_at;
+use crate::recent::RecentWords;
 use crate::units::{has_break, place_after};
 use js_tree::{Place, ReadAnswer, Token, TokenKind};
 use std::alloc::Global;
@@ -40,11 +41,12 @@ pub fn lex(alloc: Global, source: &Text) -> Result<Vec<Token>, ReadAnswer>
     ensures { Gives (λ tokens. tokens.items) result (tokens_of source.now) }
 {
     let mut tokens = Vec::new(alloc);
+    let mut recent = RecentWords::new(alloc)?;
     let mut place = Place { line: 1, column: 1 };
     let mut after_line = false;
     let mut rest = source.units();
     'pieces: while !rest.is_empty() {
-        let (kind, count) = piece_at(alloc, place, tokens.as_slice(), rest)?;
+        let (kind, count) = piece_at(alloc, &mut recent, place, tokens.as_slice(), rest)?;
         let (units, others) = rest.split_at(count);
         after_line = put(&mut tokens, kind, place, after_line, units)?;
         place = place_after(place, units);

@@ -7,6 +7,7 @@
 mod lexer;
 mod numbers;
 mod pieces;
+mod recent;
 mod signs;
 mod slashes;
 mod texts;

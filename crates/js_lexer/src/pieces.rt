@@ -7,6 +7,7 @@ ghost use Rattle.js_grammar.specs.Signs as signs;
 ghost use Rattle.js_grammar.specs.Tokens as spec;
 
 use crate::numbers::number_at;
+use crate::recent::RecentWords;
 use crate::signs::sign_at;
 use crate::slashes::divides;
 use crate::texts::text_at;
@@ -15,7 +16,7 @@ use crate::units::{
 };
 use js_tree::{Place, ReadAnswer, ReadKind, Token, TokenKind};
 use std::alloc::Global;
-use utf16_text::{Memory, Text, is_digit, is_space};
+use utf16_text::{Memory, is_digit, is_space};
 
 const DOT: u16 = 0x2E;
 
@@ -80,14 +81,14 @@ fn slash_piece(place: Place, before: &[Token], units: &[u16]) -> Result<Piece, R
     }
 }
 
-fn word_piece(alloc: Global, units: &[u16]) -> Result<Piece, Memory>
+fn word_piece(alloc: Global, recent: &mut RecentWords, units: &[u16]) -> Result<Piece, Memory>
     requires { first_passes is_word_part units.now ≡ true }
     ensures value { IfOk result (λ x. spec.word_piece units.now ≡ Ok x) }
     ensures within { IfOk result (λ x. (0 < x.1) × (x.1 ≤ length units.now)) }
 {
     let count = word_length(units);
     let (word, _) = units.split_at(count);
-    let word = Text::from_units(alloc, word)?;
+    let word = recent.text(alloc, word)?;
     Ok((Some(TokenKind::Word(word)), count))
 }
 
@@ -115,6 +116,7 @@ fn text_piece(alloc: Global, place: Place, quote: u16, rest: &[u16]) -> Result<P
 #[tactic(auto, unfolding(js_grammar::specs::Tokens::piece_at))]
 pub fn piece_at(
     alloc: Global,
+    recent: &mut RecentWords,
     place: Place,
     before: &[Token],
     units: &[u16],
@@ -129,7 +131,7 @@ pub fn piece_at(
         return Ok((None, space_length(rest) + 1));
     }
     if is_word_start(unit) {
-        return Ok(word_piece(alloc, units)?);
+        return Ok(word_piece(alloc, recent, units)?);
     }
     if is_digit(unit) {
         return number_piece(place, units);

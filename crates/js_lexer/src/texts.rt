@@ -7,7 +7,7 @@ ghost use Rattle.js_tree.specs.declared.refusal.ReadAnswer.TheVariants as answer
 ghost use Rattle.js_lexer.specs.Texts.{is_plain};
 ghost use Rattle.std.specs.List.{prefix_len};
 
-use crate::units::{begins_digit, begins_with, behind, front, hexadecimal_length};
+use crate::units::{begins_digit, begins_with, behind, front, hexadecimal_length, is_inline};
 use js_tree::{Place, ReadAnswer, ReadKind};
 use std::alloc::Global;
 use utf16_text::{Text, is_digit, is_line_terminator};
@@ -139,7 +139,7 @@ fn plain_length(quote: u16, units: &[u16]) -> usize
 fn is_plain(quote: u16, unit: u16) -> bool
     ensures { result ≡ is_plain quote unit }
 {
-    unit != quote && unit != BACKSLASH && !is_line_terminator(unit)
+    unit != quote && unit != BACKSLASH && is_inline(unit)
 }
 
 /// The unit that a character of a text gives, or none, and how many units it has: itself, or what stands behind `\`.

@@ -79,6 +79,13 @@ pub fn behind(units: &[u16], n: usize) -> &[u16]
     }
 }
 
+/// Whether no line ends at a unit. Nearly all units of a script stand between those at which one does.
+pub fn is_inline(unit: u16) -> bool
+    ensures { result ≡ is_inline unit }
+{
+    matches!(unit, 0x0E..=0x2027) || !is_line_terminator(unit)
+}
+
 pub fn space_length(units: &[u16]) -> usize
     ensures value { result ≡ prefix_len is_space_unit units.now }
     ensures within { result ≤ length units.now }
@@ -90,10 +97,7 @@ pub fn inline_length(units: &[u16]) -> usize
     ensures value { result ≡ prefix_len is_inline units.now }
     ensures within { result ≤ length units.now }
 {
-    units
-        .iter()
-        .take_while(|unit| !is_line_terminator(**unit))
-        .count()
+    units.iter().take_while(|unit| is_inline(**unit)).count()
 }
 
 pub fn word_length(units: &[u16]) -> usize

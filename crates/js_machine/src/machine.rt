@@ -1,5 +1,5 @@
 // The state of a run.
-ghost use Rattle.std.specs.Prelude.{◌≡◌, ◌∷◌, IfErr, OnOk};
+ghost use Rattle.std.specs.Prelude.{◌≡◌, ◌∷◌, Err, IfErr, OnOk};
 ghost use Rattle.js_machine.specs.Moves.{
   Descends,
   Moves,
@@ -56,15 +56,23 @@ fn open<'p>(
     ensures ok { OnOk result (frames.new ≡ record { context = context.now; frame = frame.entry } ∷ frames.old) }
     ensures err { IfErr result (λ e. e ≡ Halt.Memory) }
 {
-    let this = context.this.copy(alloc)?;
-    let context = Context {
-        scope: context.scope,
-        this,
+    let Ok(this) = context.this.copy(alloc) else {
+        return without(frame);
     };
+    let scope = context.scope;
+    let context = Context { scope, this };
     match frames.push(Open { context, frame }) {
         None => Ok(()),
-        Some(_) => Err(Halt::Memory),
+        Some(part) => without(part.frame),
     }
+}
+
+/// Where a part can't be opened, what is left of it goes. It is a function of its own since opening a part is what a run
+/// does most.
+fn without<'p>(_frame: Frame<'p>) -> Result<(), Halt>
+    ensures { result ≡ Err Halt.Memory }
+{
+    Err(Halt::Memory)
 }
 
 impl<'p> Machine<'p> {

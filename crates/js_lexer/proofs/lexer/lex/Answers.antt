@@ -6,7 +6,7 @@ use Rattle.js_lexer.proofs.lexer.lex.Goals as goal
 
 pub returns-in_err-kind : goal.returns-in_err-kind
 returns-in_err-kind c =
-    let p = err_from_is_err_and c.from_residual.result c.from_residual.ensures.1 in
+    let p = err_from_is_err_and c.from_residual-in_err-kind.result c.from_residual-in_err-kind.ensures.1 in
     let some : 0 < length c.pieces.rest.now = grind (arith, common_steps) in
     rw (p.1, p.2) (fails _ _ _ _ _ c.pieces.invariant c.in_err-kind.field-0.0 some (rw c.as_slice.ensures.value at c.in_err-kind.ensures.gives))
 
