@@ -1,4 +1,5 @@
 // Rows of parts.
+ghost use Rattle.std.specs.Prelude.{◌≡◌, ◌++◌, ◌∷◌, [], OnOk};
 ghost use Rattle.js_grammar.specs.Readers.{Reader, row};
 ghost use Rattle.js_reading.specs.Reads.{Reads};
 
@@ -6,7 +7,7 @@ use crate::reading::Read;
 use js_grammar::Turn;
 use js_tree::Token;
 use std::alloc::Global;
-use utf16_text::List;
+use utf16_text::{List, Memory};
 
 /// The parts that turns give one after another, up to the last. It is the row of any reader that the turns read by. The
 /// first refusal of a turn ends it, and so does want of memory.
@@ -25,15 +26,28 @@ pub fn row<'a, T: Drop, F: Fn(&'a [Token]) -> Read<'a, Turn<T>>>(
         let (one, after) = turn(rest)?;
         match one {
             Turn::More(x) => {
-                all.push(alloc, x)?;
+                add(alloc, &mut all, x)?;
                 rest = after;
             }
             Turn::Last(x) => {
-                all.push(alloc, x)?;
+                add(alloc, &mut all, x)?;
                 return Ok((all, after));
             }
             Turn::End => return Ok((all, after)),
         }
     }
     Ok((all, rest))
+}
+
+/// Puts a part at the end of a row. Most rows have one part alone, so the first one takes room for no other.
+fn add<T: Drop>(alloc: Global, parts: &mut List<T>, part: T) -> Result<(), Memory>
+    ensures { OnOk result (parts.new ≡ parts.old ++ part ∷ []) }
+{
+    if !parts.is_empty() {
+        return parts.push(alloc, part);
+    }
+    let mut first = Vec::with_capacity(alloc, 1)?;
+    first.push(part)?;
+    *parts = List::from_vec(first);
+    Ok(())
 }

@@ -156,8 +156,22 @@ const FUNCTION_PROTOTYPE_ROWS: &[TableRow] = &[
     ("toString", LeftOut, "Function.prototype.toString", true),
 ];
 
+// The functions of the proxy format stand first, since a name is looked for row by row and scripts call these most.
 #[rattlefmt::skip]
 const GLOBAL_ROWS: &[TableRow] = &[
+    ("isPlainHostName", native!(13), "", true),
+    ("dnsDomainIs", native!(14), "", true),
+    ("localHostOrDomainIs", native!(15), "", true),
+    ("dnsDomainLevels", native!(16), "", true),
+    ("dnsResolve", native!(17), "", true),
+    ("isResolvable", native!(18), "", true),
+    ("isInNet", native!(19), "", true),
+    ("myIpAddress", native!(20), "", true),
+    ("shExpMatch", native!(21), "", true),
+    ("alert", native!(22), "", true),
+    ("weekdayRange", native!(23), "", true),
+    ("dateRange", native!(24), "", true),
+    ("timeRange", native!(25), "", true),
     ("undefined", Undefined, "", false),
     ("NaN", LeftOut, "NaN", false),
     ("Infinity", LeftOut, "Infinity", false),
@@ -189,19 +203,6 @@ const GLOBAL_ROWS: &[TableRow] = &[
     ("SyntaxError", LeftOut, "SyntaxError", true),
     ("EvalError", LeftOut, "EvalError", true),
     ("URIError", LeftOut, "URIError", true),
-    ("isPlainHostName", native!(13), "", true),
-    ("dnsDomainIs", native!(14), "", true),
-    ("localHostOrDomainIs", native!(15), "", true),
-    ("dnsDomainLevels", native!(16), "", true),
-    ("dnsResolve", native!(17), "", true),
-    ("isResolvable", native!(18), "", true),
-    ("isInNet", native!(19), "", true),
-    ("myIpAddress", native!(20), "", true),
-    ("shExpMatch", native!(21), "", true),
-    ("alert", native!(22), "", true),
-    ("weekdayRange", native!(23), "", true),
-    ("dateRange", native!(24), "", true),
-    ("timeRange", native!(25), "", true),
 ];
 
 #[rattlefmt::skip]

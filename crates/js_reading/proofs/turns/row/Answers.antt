@@ -8,7 +8,7 @@ loop-turn-init g c reader reads = rw c.new-all.ensures (begins reader _ _ (omega
 
 pub loop-turn-preserved : goal.loop-turn-preserved
 loop-turn-preserved g c reader reads =
-    rw c.in_ok-push-in-More.ensures.ok
+    rw c.in_ok-add-in-More.ensures
     (goes_on reader _ _ _ _ _ (c.loop-turn.invariant reader reads) c.loop-turn-test.true c.in_ok-one.one _ c.in-More.x c.in-More.is (reads _ _ c.in_ok-one.ensures))
 
 pub returns-in_err-one : goal.returns-in_err-one
@@ -18,7 +18,7 @@ returns-in_err-one g c reader reads =
 
 pub returns-in-Last : goal.returns-in-Last
 returns-in-Last g c reader reads =
-    rw c.in_ok-push-in-Last.ensures.ok
+    rw c.in_ok-add-in-Last.ensures
     (is_last reader _ _ _ _ _ (c.loop-turn.invariant reader reads) c.loop-turn-test.true c.in_ok-one.one _ c.in-Last.x c.in-Last.is (reads _ _ c.in_ok-one.ensures))
 
 pub returns-in-End : goal.returns-in-End
