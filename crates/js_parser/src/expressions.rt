@@ -1,9 +1,12 @@
 // Expressions, by plain descent (ECMA-262 5.1, section 11).
-ghost use Rattle.std.specs.Prelude.{◌≡◌, ◌<◌, ◌≤◌};
+ghost use Rattle.std.specs.Prelude.{◌≡◌, ◌<◌, ◌≤◌, false, Ok};
+ghost use Rattle.js_tree.specs.declared.place.Place.{Place};
+ghost use Rattle.js_grammar.specs.declared.turn.Turn.TheVariants.{End};
 ghost use Rattle.js_tree.specs.View.{expression_of};
 ghost use Rattle.js_grammar.specs.Words.{keyword_of};
 ghost use Rattle.js_grammar.specs.Readers.{row};
 ghost use Rattle.js_grammar.specs.Expressions as spec;
+ghost use Rattle.js_grammar.specs.Expressions.{Deeper};
 ghost use Rattle.js_reading.specs.Reads.{Reads};
 
 use crate::behind::{closed, listed};
@@ -29,6 +32,18 @@ fn leaf(place: Place, node: ExpressionNode) -> Expression
     ensures { result ≡ expression_of place node }
 {
     Expression { place, node }
+}
+
+/// Whether a suffix begins here.
+#[tactic(auto, unfolding(js_grammar::specs::Expressions::a_suffix))]
+fn begins_suffix(left: LeftSide, tokens: &[Token]) -> bool
+    ensures { result ≡ false → (end : Place) (d : Deeper) → spec.a_suffix end d left tokens.now ≡ Ok (End, tokens.now) }
+{
+    match (left, next_sign(tokens)) {
+        (_, Some(Sign::Dot | Sign::LeftBracket)) => true,
+        (LeftSide::Call, Some(Sign::LeftParenthesis)) => true,
+        _ => false,
+    }
 }
 
 /// Expressions that commas part, up to the last.
@@ -360,6 +375,9 @@ impl<N: Nested> Parser<N> {
     {
         let place = place_at(self.end, tokens);
         let (first, rest) = self.primary(tokens)?;
+        if !begins_suffix(left, rest) {
+            return Ok((first, rest));
+        }
         let (others, rest) = self.row(&Suffixes { left }, rest)?;
         Ok((suffixed_by(self.alloc, place, first, others)?, rest))
     }

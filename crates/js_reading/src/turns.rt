@@ -19,35 +19,33 @@ pub fn row<'a, T: Drop, F: Fn(&'a [Token]) -> Read<'a, Turn<T>>>(
     requires { F.IsAlwaysCallable turn }
     ensures { (reader : Reader (Turn T)) → ((before : _) (given : _) → F.post turn before given → Reads (reader before.now) given) → Reads (row reader tokens.now) result }
 {
-    let mut all = List::new(alloc);
+    let mut all = Vec::new(alloc);
     let mut rest = tokens;
     // Each turn but the last takes a token at least.
     for _turn in 0..tokens.len() + 1 {
         let (one, after) = turn(rest)?;
         match one {
             Turn::More(x) => {
-                add(alloc, &mut all, x)?;
+                add(&mut all, x)?;
                 rest = after;
             }
             Turn::Last(x) => {
-                add(alloc, &mut all, x)?;
-                return Ok((all, after));
+                add(&mut all, x)?;
+                return Ok((List::from_vec(all), after));
             }
-            Turn::End => return Ok((all, after)),
+            Turn::End => return Ok((List::from_vec(all), after)),
         }
     }
-    Ok((all, rest))
+    Ok((List::from_vec(all), rest))
 }
 
-/// Puts a part at the end of a row. Most rows have one part alone, so the first one takes room for no other.
-fn add<T: Drop>(alloc: Global, parts: &mut List<T>, part: T) -> Result<(), Memory>
-    ensures { OnOk result (parts.new ≡ parts.old ++ part ∷ []) }
+/// Puts a part at the end of a row. Most rows have one part or two, so the room doubles from one on.
+fn add<T: Drop>(parts: &mut Vec<T>, part: T) -> Result<(), Memory>
+    ensures { OnOk result (parts.new.items ≡ parts.old.items ++ part ∷ []) }
 {
-    if !parts.is_empty() {
-        return parts.push(alloc, part);
+    if parts.len() == parts.capacity() {
+        parts.reserve_exact(parts.len().max(1))?;
     }
-    let mut first = Vec::with_capacity(alloc, 1)?;
-    first.push(part)?;
-    *parts = List::from_vec(first);
+    parts.push(part)?;
     Ok(())
 }

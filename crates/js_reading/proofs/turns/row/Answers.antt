@@ -4,7 +4,7 @@ use Rattle.js_reading.proofs.Rows.{begins, goes_on, is_last, is_end, no_more, fa
 use Rattle.js_reading.proofs.turns.row.Goals as goal
 
 pub loop-turn-init : goal.loop-turn-init
-loop-turn-init g c reader reads = rw c.new-all.ensures (begins reader _ _ (omega arith))
+loop-turn-init g c reader reads = rw c.new-all.ensures.items (begins reader _ _ (omega arith))
 
 pub loop-turn-preserved : goal.loop-turn-preserved
 loop-turn-preserved g c reader reads =
@@ -18,11 +18,11 @@ returns-in_err-one g c reader reads =
 
 pub returns-in-Last : goal.returns-in-Last
 returns-in-Last g c reader reads =
-    rw c.in_ok-add-in-Last.ensures
+    rw (c.from_vec.ensures, c.in_ok-add-in-Last.ensures)
     (is_last reader _ _ _ _ _ (c.loop-turn.invariant reader reads) c.loop-turn-test.true c.in_ok-one.one _ c.in-Last.x c.in-Last.is (reads _ _ c.in_ok-one.ensures))
 
 pub returns-in-End : goal.returns-in-End
-returns-in-End g c reader reads = is_end reader _ _ _ _ _ (c.loop-turn.invariant reader reads) c.loop-turn-test.true c.in_ok-one.one _ c.in-End.is (reads _ _ c.in_ok-one.ensures)
+returns-in-End g c reader reads = rw c.from_vec-in-End.ensures (is_end reader _ _ _ _ _ (c.loop-turn.invariant reader reads) c.loop-turn-test.true c.in_ok-one.one _ c.in-End.is (reads _ _ c.in_ok-one.ensures))
 
 pub returns : goal.returns
-returns g c reader reads = no_more reader _ _ _ _ _ (c.loop-turn.invariant reader reads) c.loop-turn-test.false
+returns g c reader reads = rw c.from_vec-2.ensures (no_more reader _ _ _ _ _ (c.loop-turn.invariant reader reads) c.loop-turn-test.false)
