@@ -16,6 +16,7 @@ use pac_plan::Output;
 use pac_ports::{Clock, Files};
 use pac_words::{Running, Source};
 use std::alloc::Global;
+use std::mem;
 use std::sync::ledger::Ledger;
 use step_counter::Steps;
 use url_runs::map_urls;
@@ -63,5 +64,7 @@ fn map_given<F: Files, L: Ledger>(
     let urls = read_urls(alloc, from, given, files)?;
     let program = resolve_names(alloc, script)?;
     let output = map_urls(alloc, &program, urls, &answers, runs)?;
+    // The process ends with its command, so the tree of a script isn't taken apart node by node.
+    mem::forget(program);
     Ok(output)
 }

@@ -19,6 +19,7 @@ use pac_ports::{Clock, Dice, Files, Link};
 use pac_words::{Running, Source};
 use poll_loop::Asking;
 use std::alloc::Global;
+use std::mem;
 use std::sync::ledger::Ledger;
 use step_counter::Steps;
 use url_runs::resolve_urls;
@@ -70,5 +71,7 @@ fn resolve_given<F: Files, N: Link, D: Dice, L: Ledger>(
     let urls = read_urls(alloc, from, given, files)?;
     let program = resolve_names(alloc, script)?;
     let output = resolve_urls(alloc, &program, urls, asking, link, dice, runs)?;
+    // The process ends with its command, so the tree of a script isn't taken apart node by node.
+    mem::forget(program);
     Ok(output)
 }
