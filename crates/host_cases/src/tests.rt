@@ -1,5 +1,5 @@
-// What a host answers and keeps at its limits (32 names, 256 alerts, 1,024 units of one), and what a run asks of it that
-// begins again.
+// What a host answers and keeps at its limits (32 names, 256 alerts, 1,024 units of one), and what a run asks of it
+// that begins again.
 use answer_table::AnswerTable;
 use js_host::{Host, Looked};
 use pac_names::{Answer, LookupName};

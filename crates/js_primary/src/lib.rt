@@ -1,8 +1,8 @@
 //! What the machine does at literals, functions, `new`, calls and choices (ECMA-262 5.1, sections 11.1, 11.2, 11.12 and
 //! 11.14): a function for each rule, and for what comes back.
 //!
-//! None of these reads what it is handed as a primitive value. Each goes on from the machine as evaluation does from its
-//! rule. It stands on the machine, and on the errors that a call throws.
+//! None of these reads what it is handed as a primitive value. Each goes on from the machine as evaluation does from
+//! its rule. It stands on the machine, and on the errors that a call throws.
 #![tactic(auto)]
 
 mod calls;

@@ -16,8 +16,8 @@ use pac_names::LookupName;
 use std::alloc::Global;
 use utf16_text::{List, Memory, TextList};
 
-/// Calls a function of the proxy format over the host. What it tells the host is kept in `alerts` too, as the host keeps
-/// it. Err is the name that the host doesn't know.
+/// Calls a function of the proxy format over the host. What it tells the host is kept in `alerts` too, as the host
+/// keeps it. Err is the name that the host doesn't know.
 pub fn call_host<'p, H: Host>(
     machine: &mut Machine<'p>,
     function: PacFunction,

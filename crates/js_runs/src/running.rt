@@ -60,8 +60,8 @@ fn handed_on<'p>(step: Step<'p>) -> Step<'p>
 }
 
 /// Begins a part, and goes on until no part is open: the end of the outermost one. A fault, or a property that is left
-/// out, ends the run as an error; so do a name that the host doesn't know, and want of memory, after which the machine is
-/// of no use. What is thrown is no error here, but an end. What the script tells the host is kept in `alerts` too.
+/// out, ends the run as an error; so do a name that the host doesn't know, and want of memory, after which the machine
+/// is of no use. What is thrown is no error here, but an end. What the script tells the host is kept in `alerts` too.
 pub fn run_on<'p, H: Host>(
     machine: &mut Machine<'p>,
     first: Part<'p>,

@@ -3,7 +3,15 @@ ghost use Rattle.std.specs.Prelude.{OnOk};
 ghost use Rattle.js_binding.specs.Resolved.{statement_in};
 ghost use Rattle.scope_names.specs.Around.{scopes_of};
 ghost use Rattle.js_scope.specs.Gives.{Gives};
-ghost use Rattle.js_scope.specs.Parts.{statement_node_in, declared_in, branch_in, start_part_in, target_part_in, clause_in, catch_in};
+ghost use Rattle.js_scope.specs.Parts.{
+  statement_node_in,
+  declared_in,
+  branch_in,
+  start_part_in,
+  target_part_in,
+  clause_in,
+  catch_in,
+};
 
 use crate::names::{bind, one_name};
 use crate::nested::Nested;

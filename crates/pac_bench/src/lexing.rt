@@ -8,7 +8,8 @@ use std::fs;
 use std::time::Instant;
 use utf16_text::Text;
 
-/// The words are a script's file and a count. It writes the number of tokens in all, and the nanoseconds that they took.
+/// The words are a script's file and a count. It writes the number of tokens in all, and the nanoseconds that they
+/// took.
 pub fn run(rt: &HostRuntime, words: &[String]) -> Result<()> {
     let [file, count] = words else {
         bail!("usage: pac_bench lexing SCRIPT COUNT");

@@ -1,7 +1,7 @@
 //! Times the layers, for `bench/run`: `pac_bench PART WORD..` does the work of a part and writes what came of it.
 //!
-//! A part is a module with a function `run`, which takes the words behind the part's name. It stands on the crates that it
-//! times. Its calls are safe and return; nothing else is promised of it.
+//! A part is a module with a function `run`, which takes the words behind the part's name. It stands on the crates that
+//! it times. Its calls are safe and return; nothing else is promised of it.
 #![tactic(auto)]
 
 mod heap;

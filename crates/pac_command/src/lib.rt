@@ -1,8 +1,8 @@
 //! The commands and the program's one top call, `pac`.
 //!
 //! Each command is a plan of pac_plan, in `specs/`, and code that follows it. It stands on pac_words for the words, on
-//! pac_plan and pac_ports for the outside, on pac_clocks for moments, on js_parser, js_printer and js_scope for scripts,
-//! on batch_text for URLs and names, on url_runs for the runs of scripts and their report, and on pac_ask.
+//! pac_plan and pac_ports for the outside, on pac_clocks for moments, on js_parser, js_printer and js_scope for
+//! scripts, on batch_text for URLs and names, on url_runs for the runs of scripts and their report, and on pac_ask.
 #![tactic(auto)]
 
 mod check;

@@ -27,8 +27,8 @@ use utf16_text::Memory;
 
 /// Does what the words after the program's name ask for, writes the output to `out` and returns its status.
 ///
-/// `runs` counts the runs of scripts. Only `resolve` and `ask` touch the link and the dice, and only `resolve` and `map` the
-/// clock, once, where the words don't say the moment.
+/// `runs` counts the runs of scripts. Only `resolve` and `ask` touch the link and the dice, and only `resolve` and
+/// `map` the clock, once, where the words don't say the moment.
 pub fn pac<F: Files, K: Sink, N: Link, C: Clock, D: Dice, L: Ledger>(
     alloc: Global,
     words: &Vec<String>,
@@ -39,8 +39,9 @@ pub fn pac<F: Files, K: Sink, N: Link, C: Clock, D: Dice, L: Ledger>(
     dice: &mut D,
     runs: &mut Steps<L>,
 ) -> Status
-    // The plan of the words is followed and its output written, with the order and completeness of every plan. What `resolve`
-    // reports is by runs against a map of all names, whichever agrees with the first accepted replies of the log.
+    // The plan of the words is followed and its output written, with the order and completeness of every plan. What
+    // `resolve` reports is by runs against a map of all names, whichever agrees with the first accepted replies of the
+    // log.
     ensures serves { (complete : Completion) → Serves (program_of complete (command_of (map string_bytes words.now.items)))
         (record { files = F.state files.old; link = N.state link.old; clock = C.told clock.old; dice = D.told dice.old; runs = runs.old })
         (record { files = F.state files.new; link = N.state link.new; clock = C.told clock.new; dice = D.told dice.new; runs = runs.new })

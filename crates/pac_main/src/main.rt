@@ -1,8 +1,8 @@
 //! The program `pac`: makes the real outside, does what the words ask for and exits with the status.
 //!
 //! All that matters is `pac` of pac_command; here stand the adapters to real files, standard output and the machine's
-//! clock, a few lines each, and those of pac_net to the network are made. They are the trusted edge: that they do what they say is the
-//! machine's matter.
+//! clock, a few lines each, and those of pac_net to the network are made. They are the trusted edge: that they do what
+//! they say is the machine's matter.
 #![tactic(auto)]
 
 mod disk_files;

@@ -90,8 +90,8 @@ fn sent_whole(socket: &UdpSocket, datagram: &[u8]) -> bool {
     false
 }
 
-// One receive: a tick where none came in time or a signal came. One octet more than a datagram may have shows those that
-// are too long, which are handed on as empty.
+// One receive: a tick where none came in time or a signal came. One octet more than a datagram may have shows those
+// that are too long, which are handed on as empty.
 fn received(socket: &UdpSocket, buffer: &mut [u8; 512]) -> Result<Got, Failed>
     ensures { IfOk result IsWithin }
 {

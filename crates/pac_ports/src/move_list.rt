@@ -1,5 +1,5 @@
-// Moves over a link. A link in memory takes the room for its moves beforehand, so this list shows its `Vec`: a list that
-// contracts see as its items alone can't promise that a push finds room.
+// Moves over a link. A link in memory takes the room for its moves beforehand, so this list shows its `Vec`: a list
+// that contracts see as its items alone can't promise that a push finds room.
 ghost use Rattle.std.specs.Prelude.{◌≡◌, ◌<◌, ◌++◌, ◌∷◌, ◌↔◌, [], IsTrue, OnOk, OnErr, length, slice_get, Some};
 ghost use Rattle.pac_ports.specs.MoveList.{moves};
 

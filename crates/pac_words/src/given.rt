@@ -2,7 +2,19 @@
 
 ghost use Rattle.std.specs.Prelude.{◌≡◌, ◌≤◌, IfSome, codes, option_map};
 ghost use Rattle.std.specs.Option.{ForSome};
-ghost use Rattle.pac_words.specs.Commands.{asking_of, running_of, resolve_of, map_of, check_of, ask_of, generate_of, source_from, now_of, zone_or, number_given};
+ghost use Rattle.pac_words.specs.Commands.{
+  asking_of,
+  running_of,
+  resolve_of,
+  map_of,
+  check_of,
+  ask_of,
+  generate_of,
+  source_from,
+  now_of,
+  zone_or,
+  number_given,
+};
 ghost use Rattle.pac_words.specs.Views.{asking_view, running_view, source_view, command_view, given_in};
 
 use crate::command::{Asking, Command, Running, Source};

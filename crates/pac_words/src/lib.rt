@@ -1,7 +1,7 @@
 //! The words of the command line: which command they give, with which arguments.
 //!
-//! clap reads the words behind a command's name; that it reads them by the rules of `specs/Rules.antt`, for every table of
-//! options and positionals, is proved. The values are read here. It stands on clap, on pac_ports for servers and on
+//! clap reads the words behind a command's name; that it reads them by the rules of `specs/Rules.antt`, for every table
+//! of options and positionals, is proved. The values are read here. It stands on clap, on pac_ports for servers and on
 //! pac_calendar for zones.
 #![tactic(auto)]
 

@@ -1,5 +1,17 @@
 // The laws over the definitions of a log, each once.
-ghost use Rattle.poll_log.specs.Laws.{AgeIsSinceBirth, BeatBound, DeadStays, FinishedStays, QuestionsAreRead, RunBound, RunsAreRestartable, SentAsDue, ToldGrows, ToldWasSent, UnansweredStays};
+ghost use Rattle.poll_log.specs.Laws.{
+  AgeIsSinceBirth,
+  BeatBound,
+  DeadStays,
+  FinishedStays,
+  QuestionsAreRead,
+  RunBound,
+  RunsAreRestartable,
+  SentAsDue,
+  ToldGrows,
+  ToldWasSent,
+  UnansweredStays,
+};
 
 /// The octets of a question are read as that question.
 pub fn questions_are_read()

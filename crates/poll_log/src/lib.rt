@@ -1,10 +1,10 @@
 //! What a log of sends, datagrams and ticks says of the names that were asked: definitions by counting in the log, and
 //! the laws that they obey.
 //!
-//! `specs/` cuts a log into turns, counts its beats, and says how old each name is, what it was answered, when it is dead,
-//! and which sends are owed to jobs that wait for names. A job is any function from the answers that are told to the first
-//! name that it still lacks. The code is only the types that the definitions speak of; it stands on pac_ports and
-//! dns_message.
+//! `specs/` cuts a log into turns, counts its beats, and says how old each name is, what it was answered, when it is
+//! dead, and which sends are owed to jobs that wait for names. A job is any function from the answers that are told to
+//! the first name that it still lacks. The code is only the types that the definitions speak of; it stands on pac_ports
+//! and dns_message.
 #![tactic(auto)]
 
 mod flight;

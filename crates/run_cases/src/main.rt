@@ -2,10 +2,10 @@
 //!
 //! The rows are written from ECMA-262 edition 5.1, sections 8 to 13, 15 and B.2.3, and from the page on the Netscape
 //! Navigator Proxy Auto-Config format, as the profile in docs/LANGUAGE.md has them. Each script is run twice over fresh
-//! hosts, and must come to the same: how it ends, the names that it asks and the alerts that are kept, or each call that it
-//! makes of its host, in their order. In each run it
-//! is Tuesday, 14 November 2023, 22:13:20 in GMT, and five hours later in the zone; the machine is 192.168.1.10. It
-//! reads the rows from its input, and stands on js_parser, js_scope and js_interp.
+//! hosts, and must come to the same: how it ends, the names that it asks and the alerts that are kept, or each call
+//! that it makes of its host, in their order. In each run it is Tuesday, 14 November 2023, 22:13:20 in GMT, and five
+//! hours later in the zone; the machine is 192.168.1.10. It reads the rows from its input, and stands on js_parser,
+//! js_scope and js_interp.
 #![tactic(auto)]
 
 mod answers;

@@ -1,13 +1,23 @@
 // The laws of runs over a log, each once.
-ghost use Rattle.session_log.specs.Laws.{EndsStay, IsIsolated, LacksTheFirstMissing, RunsAreJobs, RunsAskInOrder, RunsCostTheirNames, RunsGrow, SessionsEnd, ToldIsFinite};
+ghost use Rattle.session_log.specs.Laws.{
+  EndsStay,
+  IsIsolated,
+  LacksTheFirstMissing,
+  RunsAreJobs,
+  RunsAskInOrder,
+  RunsCostTheirNames,
+  RunsGrow,
+  SessionsEnd,
+  ToldIsFinite,
+};
 
 /// Over a finite map a job lacks the first name of its whole run that the map doesn't hold.
 pub fn lacks_the_first_missing<End>()
     ensures { LacksTheFirstMissing End }
 {}
 
-/// The extension law: more answers leave a run that lacks none, and else the names that it asks up to the first one that
-/// it lacks.
+/// The extension law: more answers leave a run that lacks none, and else the names that it asks up to the first one
+/// that it lacks.
 pub fn runs_ask_in_order<End>()
     ensures { RunsAskInOrder End }
 {}

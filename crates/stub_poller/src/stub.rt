@@ -1,9 +1,38 @@
 // The stub.
-ghost use Rattle.std.specs.Prelude.{◌≡◌, ◌+◌, ◌*◌, ◌<◌, ◌≤◌, ◌^◌, IfOk, IfSome, None, OnErr, OnOk, Some, length, map, take, vec_capacity};
+ghost use Rattle.std.specs.Prelude.{
+  ◌≡◌,
+  ◌+◌,
+  ◌*◌,
+  ◌<◌,
+  ◌≤◌,
+  ◌^◌,
+  IfOk,
+  IfSome,
+  None,
+  OnErr,
+  OnOk,
+  Some,
+  length,
+  map,
+  take,
+  vec_capacity,
+};
 ghost use Rattle.std.specs.List.{All, HoldsAt, filter};
 ghost use Rattle.std.specs.Borrow.{sem};
 ghost use Rattle.dns_message.specs.Numbers.{number_at};
-ghost use Rattle.stub_poller.specs.State.{aged, answer_to, answered_by, asking, dying, flies_in, given, is_dead_in, is_young, new_stub, resent};
+ghost use Rattle.stub_poller.specs.State.{
+  aged,
+  answer_to,
+  answered_by,
+  asking,
+  dying,
+  flies_in,
+  given,
+  is_dead_in,
+  is_young,
+  new_stub,
+  resent,
+};
 
 use crate::report::{BeatReport, add_deaths, list_deaths, list_resends};
 use dns_message::read_reply;

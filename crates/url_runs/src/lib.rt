@@ -1,7 +1,7 @@
 //! One script for many URLs, with their report: over a link to a server, or against a file of names.
 //!
-//! Over a link each URL has a session of session_core, whose runs are those of js_interp. Against a file of names each URL
-//! has one run. `specs/Resolving.antt` and `specs/Mapping.antt` say by plans what is reported, by the outcomes of
+//! Over a link each URL has a session of session_core, whose runs are those of js_interp. Against a file of names each
+//! URL has one run. `specs/Resolving.antt` and `specs/Mapping.antt` say by plans what is reported, by the outcomes of
 //! uninterrupted runs.
 #![tactic(auto)]
 
