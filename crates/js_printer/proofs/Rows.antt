@@ -4,7 +4,7 @@
 use Rattle.std.proofs.Common.{◌≡◌, ℕ, ◌-◌, ◌<◌, ◌≤◌, List, [], ◌∷◌, Bool, true, false, Option, length, take, drop, get_or, nat_eq, refl, sym, ap, ◌∙◌, arith}
 use mathlib.Core.Bool.{not}
 use Rattle.std.proofs.Math.Dec.{eqb-suc-zero}
-use Rattle.std.proofs.lemmas.List.{take_all}
+use Rattle.std.proofs.lemmas.List.{nil_from_length, take_all}
 use Rattle.js_tree.specs.declared.bound.BoundName.{BoundName}
 use Rattle.js_tree.specs.declared.token.TokenKind.TheVariants as token
 use Rattle.js_tree.specs.declared.token.Token.{Token}
@@ -29,10 +29,6 @@ first_and_rest (y ∷ ys) x h e =
     let rest : take (length (y ∷ ys) - 1) ys ≡ ys = take_all (length (y ∷ ys) - 1) ys (omega arith) in
     rw rest (ap (λ z. z ∷ ys) (sym e))
 
-pub none_left : {A : Type 0} (xs : List A) → length xs < 1 → xs ≡ []
-none_left [] h = refl
-none_left (x ∷ xs) h = absurd (omega arith)
-
 -- a row goes on behind its first part
 goes_on : {A : Type 0} (size : List A → ℕ) (tokens : List A → List Token) (xs rest : List A) (x : A) (n : ℕ) (a b whole : List ℕ) → xs ≡ x ∷ rest → size rest ≤ size (x ∷ rest) → written b (tokens rest) ≡ written a (tokens (x ∷ rest)) → (size xs ≤ n) × (written a (tokens xs) ≡ whole) → (size rest ≤ n) × (written b (tokens rest) ≡ whole)
 goes_on size tokens xs rest x n a b whole e less step before =
@@ -46,7 +42,7 @@ goes_on size tokens xs rest x n a b whole e less step before =
 pub all_written : {A : Type 0} (size : List A → ℕ) (tokens : List A → List Token) (xs : List A) (n : ℕ) (a whole : List ℕ) → tokens [] ≡ [] → length xs < 1 → (size xs ≤ n) × (written a (tokens xs) ≡ whole) → a ≡ whole
 unfolding written
 all_written size tokens xs n a whole none h before =
-    let here : written a (tokens xs) ≡ a = ap (λ ys. written a (tokens ys)) (none_left xs h) ∙ ap (λ ts. written a ts) none in
+    let here : written a (tokens xs) ≡ a = ap (λ ys. written a (tokens ys)) (nil_from_length xs (omega (arith, h))) ∙ ap (λ ts. written a ts) none in
     sym here ∙ before.1
 
 -- ---- what one turn writes; a comma, or `else`, stands behind each part but the last

@@ -1,6 +1,7 @@
 -- A flood of empty datagrams is a beat, which ends a name that is sent once.
 use Rattle.std.proofs.Common.{◌≡◌, ℕ, zero, suc, ◌+◌, ◌/◌, Bool, true, false, cond, ◌&&◌, nat_le, List, [], ◌∷◌, Option, Some, None, is_none, refl, sym, ◌∙◌, ap, subst, arith}
 use Rattle.std.specs.Prelude.{replicate}
+use Rattle.std.proofs.Math.Bool.{and-false}
 use Rattle.pac_ports.specs.declared.link.Move.{Move}
 use Rattle.pac_ports.specs.declared.link.Move.TheVariants as move
 use Rattle.dns_message.specs.Question.{question_octets}
@@ -120,11 +121,7 @@ pub flood-alive : is_dead once_only (flood 4095) example ≡ false
 unfolding is_dead
 flood-alive =
     ap (λ a. (was_sent (flood 4095) example && is_none (told once_only (flood 4095) example)) && nat_le 1 a) (flood_age 4095)
-    ∙ off (was_sent (flood 4095) example && is_none (told once_only (flood 4095) example))
-  where
-    off : (b : Bool) → (b && false) ≡ false
-    off true = refl
-    off false = refl
+    ∙ and-false (was_sent (flood 4095) example && is_none (told once_only (flood 4095) example))
 
 pub flood-runs : runs_of once_only (flood 4096) job ≡ 1
 flood-runs = (flood_quiet 4096).cost

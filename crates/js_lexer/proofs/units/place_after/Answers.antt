@@ -1,15 +1,12 @@
 use Rattle.std.proofs.Common.{◌≡◌, ◌+◌, ◌<◌, ◌≤◌, ◌-◌, ◌∷◌, ◌&&◌, [], true, false, Bool, List, ℕ, length, take, drop, length-drop, slice_index_or, refl, sym, ap, ◌∙◌, arith}
 use Rattle.std.specs.Prelude.{nat_eq}
 use Rattle.std.proofs.lemmas.Bool.{ne_eqb}
-use Rattle.std.proofs.lemmas.List.{take_all}
+use Rattle.std.proofs.lemmas.List.{nil_from_length, take_all}
+use Rattle.std.proofs.Math.Bool.{and-false}
 use Rattle.js_grammar.specs.Units.{begins_with}
 use Rattle.js_lexer.proofs.Lines.{plain, is_last, waits, ends_line}
 use Rattle.js_lexer.proofs.units.place_after.Goals as goal
 use Rattle.js_lexer.proofs.units.place_after.Goals.{then-end-ne-CARRIAGE_RETURN-via-then-end-ne-CARRIAGE_RETURN, then-end-ne-CARRIAGE_RETURN-via-else-end-ne-CARRIAGE_RETURN+then-not-begins_with}
-
-none_left : (units : List ℕ) → length units < 1 → units ≡ []
-none_left [] few = refl
-none_left (u ∷ us) few = absurd (omega arith)
 
 parted : (units : List ℕ) → 1 ≤ length units → units ≡ slice_index_or units 0 0 ∷ take (length units - 1) (drop 1 units)
 parted [] some = absurd (omega arith)
@@ -21,13 +18,9 @@ fewer rest n behind is some =
     let more : length behind ≡ length (take (length behind - 1) (drop 1 behind)) + 1 = omega (arith, ap length (parted behind some)) in
     omega (arith, some)
 
-neither : (b : Bool) → (b && false) ≡ false
-neither true = refl
-neither false = refl
-
 pub returns-in_default-clause-value : goal.returns-in_default-clause-value
 returns-in_default-clause-value c =
-    let none = sym c.behind.ensures ∙ none_left c.behind.result.now c.in_default.len_below in
+    let none = sym c.behind.ensures ∙ nil_from_length c.behind.result.now (omega (arith, c.in_default.len_below)) in
     rw c.inline_length-count.ensures.value (sym (is_last c.loop-line.rest.now (record { line = c.loop-line.line; column = c.loop-line.column }) (rw (← c.inline_length-count.ensures.value) none)) ∙ c.loop-line.invariant.same)
 
 pub loop-line-preserved-then-end-ne-CARRIAGE_RETURN : goal.loop-line-preserved-then-end-ne-CARRIAGE_RETURN
@@ -40,7 +33,7 @@ loop-line-preserved-then-end-ne-CARRIAGE_RETURN c =
     let once : (nat_eq end 13 && begins_with 10 others) ≡ false = elim c.then-end-ne-CARRIAGE_RETURN.branch [
       | then-end-ne-CARRIAGE_RETURN-via-then-end-ne-CARRIAGE_RETURN w ↦ ap (λ b. b && begins_with 10 others) (ne_eqb end 13 w.if-end-ne-CARRIAGE_RETURN.true)
       | then-end-ne-CARRIAGE_RETURN-via-else-end-ne-CARRIAGE_RETURN+then-not-begins_with w ↦
-          ap (λ b. nat_eq end 13 && b) (sym w.begins_with.ensures ∙ w.if-not-begins_with.true) ∙ neither (nat_eq end 13)
+          ap (λ b. nat_eq end 13 && b) (sym w.begins_with.ensures ∙ w.if-not-begins_with.true) ∙ and-false (nat_eq end 13)
     ] in
     let fits = fewer rest c.inline_length-count.result behind c.behind.ensures c.in-len1-up.len_at_least in
     record {
