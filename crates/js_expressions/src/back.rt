@@ -130,15 +130,9 @@ pub fn suffix_back<'p>(machine: &mut Machine<'p>, part: SuffixFrame<'p>, value: 
             rest,
         } => index_done(machine, aim, base, place, rest, value),
         SuffixFrame::Key { base, place } => key_done(machine, base, place, value),
-        SuffixFrame::Argument {
-            aim,
-            this,
-            callee,
-            done,
-            left,
-            place,
-            rest,
-        } => argument_done(machine, aim, this, callee, done, left, place, rest, value),
+        SuffixFrame::Argument { call, done, left } => {
+            argument_done(machine, call, done, left, value)
+        }
         SuffixFrame::Called { aim, rest } => called(machine, aim, value, rest),
     }
 }

@@ -15,7 +15,7 @@ ghost use Rattle.js_expressions.specs.Suffixes as spec;
 use crate::primitives::primitive;
 use heap_steps::{Halt, get, get_by, test_base};
 use heap_values::{BuiltIn, ObjectId, Value};
-use js_frames::{Aim, Frame, Methods, SuffixFrame, Wanted};
+use js_frames::{Aim, Frame, Methods, OpenCall, SuffixFrame, Wanted};
 use js_machine::{Machine, Now, Step, charge};
 use js_native_calls::convert;
 use js_primary::first_arguments;
@@ -122,7 +122,14 @@ pub fn suffixes_from<'p>(
                 }
             }
             SuffixNode::Call(all) => {
-                return first_arguments(machine, aim, this, value, all, place, rest);
+                let call = OpenCall {
+                    aim,
+                    this,
+                    callee: value,
+                    place,
+                    rest,
+                };
+                return first_arguments(machine, call, all);
             }
         };
         this = value;

@@ -153,10 +153,10 @@ module _ (functions : List FunctionTree) (go : Within) (cx : Context) where
   after_suffix (of_suffix.Key base place) v =
       test_base base place >> convert.to_primitive (rule.call functions go cx) convert.text_methods v place
       >>= (λ key. set_base base >> pure key)
-  after_suffix (of_suffix.Argument purpose this callee done left place rest) v =
+  after_suffix (of_suffix.Argument call done left) v =
       rule.arguments_from functions go cx (done ++ v ∷ []) (expressions_of left.now)
-      >>= (λ vs. convert.call_value (rule.call functions go cx) callee this vs place
-      >>= (λ w. suffixes_by purpose global_object w (suffixes_of rest.now)))
+      >>= (λ vs. convert.call_value (rule.call functions go cx) call.callee call.this vs call.place
+      >>= (λ w. suffixes_by call.aim global_object w (suffixes_of call.rest.now)))
   after_suffix (of_suffix.Called purpose rest) v = suffixes_by purpose global_object v (suffixes_of rest.now)
 
   -- ---- statements (12)

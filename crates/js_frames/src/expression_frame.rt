@@ -119,6 +119,17 @@ pub enum ExpressionFrame<'p> {
     },
 }
 
+/// A call whose arguments are being evaluated: what is called, with which `this`, and the suffixes behind the call. The
+/// place is that of the suffix.
+#[derive(Drop)]
+pub struct OpenCall<'p> {
+    pub aim: Aim,
+    pub this: Value,
+    pub callee: Value,
+    pub place: Place,
+    pub rest: &'p [Suffix],
+}
+
 /// What is left of an expression with suffixes. Each place is that of the suffix.
 #[derive(Drop)]
 pub enum SuffixFrame<'p> {
@@ -142,13 +153,9 @@ pub enum SuffixFrame<'p> {
     },
     /// An argument of a call, behind those that are done.
     Argument {
-        aim: Aim,
-        this: Value,
-        callee: Value,
+        call: OpenCall<'p>,
         done: List<Value>,
         left: &'p [Expression],
-        place: Place,
-        rest: &'p [Suffix],
     },
     /// A call.
     Called {

@@ -13,7 +13,7 @@ mod reference;
 mod statement_frame;
 mod wanted;
 
-pub use expression_frame::{Aim, ExpressionFrame, SuffixFrame};
+pub use expression_frame::{Aim, ExpressionFrame, OpenCall, SuffixFrame};
 pub use frame::{Context, EndKind, EntryFrame, Frame, Open};
 pub use frames::Frames;
 pub use laws::{unwinding_closes, unwinding_keeps_the_rest};

@@ -1,6 +1,6 @@
 -- Tokens as a loop reads them.
 use Rattle.std.proofs.Common.{◌≡◌, ℕ, zero, suc, ◌+◌, ◌-◌, ◌<◌, ◌≤◌, List, [], ◌∷◌, ◌++◌, length, take, drop, reverse, length-drop, length-take, Bool, Option, Some, None, Result, Ok, Err, refl, sym, ap, ◌∙◌, append_assoc, arith}
-use Rattle.std.proofs.lemmas.List.{append-nil, reverse-append}
+use Rattle.std.proofs.lemmas.List.{append-nil, nil_from_length, reverse-append}
 use Rattle.js_tree.specs.declared.place.Place.{Place}
 use Rattle.js_tree.specs.declared.token.Token.{Token}
 use Rattle.js_tree.specs.declared.token.TokenKind.{TokenKind}
@@ -9,6 +9,8 @@ use Rattle.js_tree.specs.declared.refusal.ReadAnswer.TheVariants as answers
 use Rattle.js_grammar.specs.Reading.{Refusal, Fails, ◌>>=◌}
 use Rattle.js_grammar.specs.Units.{place_after}
 use Rattle.js_grammar.specs.Tokens.{divides, piece_at, at_place, piece_tokens, line_ended, tokens_from, tokens_of}
+use Rattle.js_lexer.proofs.Cuts.{goes_behind, piece_ends}
+use Rattle.js_lexer.proofs.Placed.{at_place-ok}
 
 abbrev pub with_front : List Token → Result (List Token) Refusal → Result (List Token) Refusal
 with_front front read = read >>= λ ts. Ok (front ++ ts)
@@ -22,6 +24,7 @@ pub record SoFar (all : List Token) (place : Place) (after_line : Bool) (rest so
   pub column : place.column + length rest ≤ length source + 1
   pub first : 0 < place.column
   pub so_far : with_front all (tokens_from fuel place after_line (reverse all) rest) ≡ tokens_of source
+  pub end : place_after place rest ≡ place_after (record { line = 1; column = 1 }) source
 
 pub begins : (source : List ℕ) → with_front [] (tokens_of source) ≡ tokens_of source
 begins source = nothing (tokens_of source)
@@ -79,6 +82,7 @@ module _ (all : List Token) (place : Place) (after_line : Bool) (rest source : L
         first = first;
         so_far = ap (λ (ts : List Token). with_front (all ++ here) (tokens_from (s.fuel - 1) next (line_ended o after_line (take k rest)) ts (drop k rest))) (sym (reverse_with all o place after_line))
             ∙ ap (λ (q : Place). with_front (all ++ here) (tokens_from (s.fuel - 1) q (line_ended o after_line (take k rest)) (here ++ reverse all) (drop k rest))) is ∙ sym now ∙ s.so_far;
+        end = ap (λ q. place_after q (drop k rest)) is ∙ sym (goes_behind k rest place (piece_ends (divides (reverse all)) rest (o, k) (at_place-ok place _ _ h))) ∙ s.end;
       }
 
   -- the same, over what the calls of the loop gave
@@ -93,6 +97,9 @@ module _ (all : List Token) (place : Place) (after_line : Bool) (rest source : L
   pub fails : (e : ReadAnswer) → 0 < length rest → Fails e (at_place place (piece_at (divides (reverse all)) rest)) → Fails e (tokens_of source)
   fails answers.Memory some h = tt
   fails (answers.Refused kind at) some h = sym s.so_far ∙ ap (with_front all) (ap (λ n. tokens_from n place after_line (reverse all) rest) one_more ∙ one_fault (s.fuel - 1) place after_line (reverse all) rest (kind, at) some h)
+
+  pub ends_here : length rest ≤ 0 → place ≡ place_after (record { line = 1; column = 1 }) source
+  ends_here none = ap (place_after place) (sym (nil_from_length rest (omega (arith, none)))) ∙ s.end
 
   pub is_done : length rest ≤ 0 → tokens_of source ≡ Ok all
   is_done none = sym s.so_far ∙ ap (with_front all) (at_end s.fuel place after_line (reverse all) rest none) ∙ ap (λ (ts : List Token). Ok ts) (append-nil all)

@@ -1,4 +1,5 @@
 pub mod Comments
+pub mod Cuts
 pub mod Digits
 pub mod LexLoop
 pub mod Lines

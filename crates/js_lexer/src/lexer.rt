@@ -1,6 +1,7 @@
 // The tokens of a text.
 ghost use Rattle.std.specs.Prelude.{◌≡◌, ◌≤◌, ◌++◌, IfOk, OnOk, length};
 ghost use Rattle.js_grammar.specs.Reading.{Gives};
+ghost use Rattle.js_grammar.specs.Units.{place_after};
 ghost use Rattle.js_grammar.specs.Tokens.{line_ended, piece_tokens, tokens_of};
 
 use crate::pieces::piece_at;
@@ -34,11 +35,19 @@ fn put(
     }
 }
 
+/// The tokens of a text, and the place after its last unit.
+#[derive(Drop)]
+pub struct Lexed {
+    pub tokens: Vec<Token>,
+    pub end: Place,
+}
+
 /// The tokens of a text, each with its place and whether a line ended before it; or the first refusal: BadToken,
 /// FractionLiteral or Unsupported, at the start of what is refused (ECMA-262 5.1, section 7, cut to this profile).
-pub fn lex(alloc: Global, source: &Text) -> Result<Vec<Token>, ReadAnswer>
+pub fn lex(alloc: Global, source: &Text) -> Result<Lexed, ReadAnswer>
     requires { length source.now ≤ 1048576 }
-    ensures { Gives (λ tokens. tokens.items) result (tokens_of source.now) }
+    ensures tokens { Gives (λ lexed. lexed.tokens.items) result (tokens_of source.now) }
+    ensures end { IfOk result (λ lexed. lexed.end ≡ place_after (record { line = 1; column = 1 }) source.now) }
 {
     let mut tokens = Vec::new(alloc);
     let mut recent = RecentWords::new(alloc)?;
@@ -52,5 +61,5 @@ pub fn lex(alloc: Global, source: &Text) -> Result<Vec<Token>, ReadAnswer>
         place = place_after(place, units);
         rest = others;
     }
-    Ok(tokens)
+    Ok(Lexed { tokens, end: place })
 }

@@ -1,4 +1,4 @@
-//! The lexer of scripts: `lex` gives the tokens of a text, or its first refusal.
+//! The lexer of scripts: `lex` gives the tokens of a text and the place of its end, or its first refusal.
 //!
 //! What the tokens of a text are is `tokens_of` of js_grammar, by ECMA-262 edition 5.1, section 7, cut to this profile.
 //! It reads each unit a fixed number of times and copies only what tokens hold. It stands on js_grammar and js_tree.
@@ -14,6 +14,5 @@ mod texts;
 mod units;
 mod words;
 
-pub use lexer::lex;
-pub use units::place_after;
+pub use lexer::{Lexed, lex};
 pub use words::{is_spelled, keyword_of, keyword_spelling};

@@ -1,3 +1,4 @@
+pub mod Commas
 pub mod Deep
 pub mod Levels
 pub mod Suffixes

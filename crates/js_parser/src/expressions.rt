@@ -13,10 +13,10 @@ use crate::behind::{closed, listed};
 use crate::nested::Nested;
 use crate::parser::{Parser, Row};
 use crate::statements::Statements;
-use js_grammar::{Form, LeftSide, Turn};
+use js_grammar::{Form, LeftSide, Turn, is_target};
 use js_lexer::keyword_of;
 use js_reading::{
-    Read, chained, expect, in_function, is_accessor, is_target, joined, next_assign, next_at_level,
+    Read, chained, expect, in_function, is_accessor, joined, next_assign, next_at_level,
     next_binary, next_name, next_postfix, next_sign, next_unary, next_update, place_at, read_name,
     read_parameters, read_word, refused, refused_word, rest_of, row, suffixed_by, unbound,
 };
@@ -181,13 +181,17 @@ impl Row for Suffixes {
 
 impl<N: Nested> Parser<N> {
     /// Expressions that commas part.
-    #[tactic(auto, unfolding(js_grammar::specs::Expressions::expression))]
+    #[tactic(auto, unfolding(js_grammar::specs::Expressions::expression, js_grammar::specs::Expressions::a_part, js_grammar::specs::Readers::row_of))]
     pub fn expression<'a>(&self, form: Form, tokens: &'a [Token]) -> Read<'a, Expression>
         requires { N.holds self.now.nested }
         ensures { Reads (spec.expression self.now.end (N.readers self.now.nested) form tokens.now) result }
     {
+        let (first, rest) = self.nested.value(form, tokens)?;
+        let Some(Sign::Comma) = next_sign(rest) else {
+            return Ok((first, rest));
+        };
         let place = place_at(self.end, tokens);
-        let (all, rest) = self.row(&Parts { form }, tokens)?;
+        let (all, rest) = self.row_behind(&Parts { form }, first, tokens, rest_of(rest))?;
         Ok((joined(place, all), rest))
     }
 

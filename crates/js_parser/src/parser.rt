@@ -1,13 +1,15 @@
 // The parser, and how it reads rows of parts.
+ghost use Rattle.std.specs.Prelude.{◌≡◌, Ok};
 ghost use Rattle.js_tree.specs.declared.place.Place.{Place};
 ghost use Rattle.js_grammar.specs.declared.turn.Turn.{Turn};
+ghost use Rattle.js_grammar.specs.declared.turn.Turn.TheVariants.{More};
 ghost use Rattle.js_grammar.specs.Readers.{Reader, row};
 ghost use Rattle.js_grammar.specs.Expressions.{Deeper};
 ghost use Rattle.js_reading.specs.Reads.{Reads};
 
 use crate::nested::Nested;
 use js_grammar::Turn;
-use js_reading::{Read, row};
+use js_reading::{Read, row, row_behind};
 use js_tree::{Place, Token};
 use std::alloc::Global;
 use utf16_text::List;
@@ -46,5 +48,25 @@ impl<N: Nested> Parser<N> {
         ensures { Reads (row (R.turn parts.now self.now.end (N.readers self.now.nested)) tokens.now) result }
     {
         row(self.alloc, tokens, |rest| parts.read_turn(self, rest))
+    }
+
+    /// The same parts behind the first turn, which gave one and left the rest of the tokens.
+    pub fn row_behind<'a, R: Row>(
+        &self,
+        parts: &R,
+        first: R::Part,
+        tokens: &[Token],
+        rest: &'a [Token],
+    ) -> Read<'a, List<R::Part>>
+        requires { N.holds self.now.nested }
+        ensures { R.turn parts.now self.now.end (N.readers self.now.nested) tokens.now ≡ Ok (More first, rest.now) → Reads (row (R.turn parts.now self.now.end (N.readers self.now.nested)) tokens.now) result }
+    {
+        row_behind(
+            self.alloc,
+            first,
+            tokens,
+            rest,
+            |rest| parts.read_turn(self, rest),
+        )
     }
 }

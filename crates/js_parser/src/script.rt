@@ -7,7 +7,7 @@ use crate::parser::Parser;
 use crate::reader::PartReader;
 use crate::root::{read_expression, read_statement};
 use crate::statements::Statements;
-use js_lexer::{lex, place_after};
+use js_lexer::lex;
 use js_reading::at_top;
 use js_tree::{Place, ReadAnswer, ReadKind, Script, StatementList, Token};
 use std::alloc::Global;
@@ -52,9 +52,8 @@ pub fn read_script(alloc: Global, source: &Text) -> Result<Script, ReadAnswer>
     requires { length source.now ≤ 1048576 }
     ensures { Gives (λ script. script) result (script_of_text source.now) }
 {
-    let tokens = lex(alloc, source)?;
-    let end = place_after(Place { line: 1, column: 1 }, source.units());
-    let body = read_tokens(alloc, tokens.as_slice(), end, NESTING)?;
+    let lexed = lex(alloc, source)?;
+    let body = read_tokens(alloc, lexed.tokens.as_slice(), lexed.end, NESTING)?;
     // So short a text spells fewer nodes and names than a script can have.
     Script::new(body).ok_or(ReadAnswer::Memory)
 }

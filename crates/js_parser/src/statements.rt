@@ -9,12 +9,12 @@ ghost use Rattle.js_reading.specs.Reads.{Reads};
 use crate::behind::{closed, ended};
 use crate::nested::Nested;
 use crate::parser::{Parser, Row};
-use js_grammar::{Around, Form, Turn};
+use js_grammar::{Around, Form, Turn, is_target};
 use js_lexer::keyword_of;
 use js_reading::{
     Read, alone, before_in, begins_line, broken, closes, continued, ends, expect, expect_while,
-    has_part, in_loop, in_switch, inside, is_sign, is_target, next_keyword, next_sign, place_at,
-    read_name, refused, rest_of, semicolon_if, with_default,
+    has_part, in_loop, in_switch, inside, is_sign, next_keyword, next_sign, place_at, read_name,
+    refused, rest_of, semicolon_if, with_default,
 };
 use js_tree::{
     Branch, Catch, Clause, ClauseList, Declared, Expression, ForStart, ForTarget, Keyword, Place,

@@ -1,9 +1,6 @@
 -- Calls: their arguments, and whether what is called can be (ECMA-262 5.1, section 11.2.3).
 use Rattle.std.proofs.Common.{◌≡◌, List, [], ◌∷◌, ◌++◌, Some, None, Ok, Err, Result, codes, ap}
 use Rattle.std.specs.Result.{IsErrAnd}
-use Rattle.std.specs.Borrow.{Bor}
-use Rattle.js_tree.specs.declared.place.Place.{Place}
-use Rattle.js_tree.specs.declared.expression.Suffix.{Suffix}
 use Rattle.js_tree.specs.Tree.{ExpressionTree, Expressions, FunctionTree, an_expression}
 use Rattle.js_tree.specs.View.{suffixes_of}
 use Rattle.heap_values.specs.declared.ids.ObjectId.{ObjectId}
@@ -11,7 +8,7 @@ use Rattle.heap_values.specs.declared.value.Value.{Value}
 use Rattle.run_trees.specs.Runs.{onward}
 use Rattle.js_evaluation.specs.State.{Does, global_object, throw_type_error}
 use Rattle.js_evaluation.specs.Objects.{Context}
-use Rattle.js_frames.specs.declared.expression_frame.Aim.{Aim}
+use Rattle.js_frames.specs.declared.expression_frame.OpenCall.{OpenCall}
 use Rattle.js_frames.specs.declared.expression_frame.SuffixFrame.TheVariants as of_suffix
 use Rattle.js_frames.specs.declared.frame.Frame.TheVariants as frame
 use Rattle.js_frames.specs.Rules as rule
@@ -28,44 +25,44 @@ use Rattle.js_primary.specs.Calls.{call_value, arguments_from}
 use Rattle.js_native_calls.proofs.Objects.{called_value, uncalled_value}
 use Rattle.js_native_calls.proofs.Steps.{moves_as}
 
-module _ (m : Machine) (purpose : Aim) (this callee : Value) (vs : List Value) (place : Place) (rest : Bor (List Suffix)) (r : Result Now Halt) (m' : Machine) where
+module _ (m : Machine) (call : OpenCall) (vs : List Value) (r : Result Now Halt) (m' : Machine) where
   abbrev behind : AfterValue → AfterValue
-  behind after = onward (λ w. at m suffixes_by purpose global_object w (suffixes_of rest.now)) after
+  behind after = onward (λ w. at m suffixes_by call.aim global_object w (suffixes_of call.rest.now)) after
 
-  there : (f : ObjectId) → called_object m.state.heap callee ≡ Some f → (after : AfterValue)
-      → at m call_value purpose this callee vs place rest.now after (run_state m.state)
-      ≡ at m called f this vs place (frame.Suffix (of_suffix.Called purpose rest)) after (run_state m.state)
-  there f e after = ap (λ (p : Does Value). p (behind after) (run_state m.state)) (called_value (at m rule.call) this vs place m.state.heap callee f e)
+  there : (f : ObjectId) → called_object m.state.heap call.callee ≡ Some f → (after : AfterValue)
+      → at m call_value call vs after (run_state m.state)
+      ≡ at m called f call.this vs call.place (frame.Suffix (of_suffix.Called call.aim call.rest)) after (run_state m.state)
+  there f e after = ap (λ (p : Does Value). p (behind after) (run_state m.state)) (called_value (at m rule.call) call.this vs call.place m.state.heap call.callee f e)
 
-  pub called_there : (f : ObjectId) → called_object m.state.heap callee ≡ Some f
-      → Moves (at m called f this vs place (frame.Suffix (of_suffix.Called purpose rest))) m r m' → Moves (at m call_value purpose this callee vs place rest.now) m r m'
+  pub called_there : (f : ObjectId) → called_object m.state.heap call.callee ≡ Some f
+      → Moves (at m called f call.this vs call.place (frame.Suffix (of_suffix.Called call.aim call.rest))) m r m' → Moves (at m call_value call vs) m r m'
   called_there f e k = moves_as _ m _ r m' (there f e) k
 
-  nowhere : called_object m.state.heap callee ≡ None → (after : AfterValue)
-      → at m call_value purpose this callee vs place rest.now after (run_state m.state) ≡ throw_type_error (codes "not a function") place after (run_state m.state)
-  nowhere e after = ap (λ (p : Does Value). p (behind after) (run_state m.state)) (uncalled_value (at m rule.call) this vs place m.state.heap callee e)
+  nowhere : called_object m.state.heap call.callee ≡ None → (after : AfterValue)
+      → at m call_value call vs after (run_state m.state) ≡ throw_type_error (codes "not a function") call.place after (run_state m.state)
+  nowhere e after = ap (λ (p : Does Value). p (behind after) (run_state m.state)) (uncalled_value (at m rule.call) call.this vs call.place m.state.heap call.callee e)
 
-  pub not_called : called_object m.state.heap callee ≡ None → Moves (throw_type_error (codes "not a function") place) m r m'
-      → Moves (at m call_value purpose this callee vs place rest.now) m r m'
+  pub not_called : called_object m.state.heap call.callee ≡ None → Moves (throw_type_error (codes "not a function") call.place) m r m'
+      → Moves (at m call_value call vs) m r m'
   not_called e k = moves_as _ m _ r m' (nowhere e) k
 
 -- ---- an argument that is had at once
 
-module _ (m m₁ : Machine) (purpose : Aim) (this callee : Value) (done : List Value) (e : ExpressionTree) (left : Expressions) (place : Place) (rest : List Suffix) (r : Result Now Halt) where
+module _ (m m₁ : Machine) (call : OpenCall) (done : List Value) (e : ExpressionTree) (left : Expressions) (r : Result Now Halt) where
   -- what is done with its value
   abbrev with_argument : List FunctionTree → Within → Context → Value → Does Value
-  with_argument functions go cx v = arguments_from functions go cx purpose this callee (done ++ v ∷ []) left place rest
+  with_argument functions go cx v = arguments_from functions go cx call (done ++ v ∷ []) left
 
-  pub argument_then : (v : Value) (m' : Machine) → Reaches (at m rule.visit e) m (Ok (Some v)) m₁ → Moves (at m₁ arguments_from purpose this callee (done ++ v ∷ []) left place rest) m₁ r m'
-      → Moves (at m arguments_from purpose this callee done (an_expression e left) place rest) m r m'
+  pub argument_then : (v : Value) (m' : Machine) → Reaches (at m rule.visit e) m (Ok (Some v)) m₁ → Moves (at m₁ arguments_from call (done ++ v ∷ []) left) m₁ r m'
+      → Moves (at m arguments_from call done (an_expression e left)) m r m'
   argument_then v m' k goes = reached_then (at m rule.visit e) with_argument m m₁ v r m' k goes
 
   pub argument_stops : (h : Halt) → IsErrAnd r (λ x. x ≡ h) → Reaches (at m rule.visit e) m (Err h) m₁
-      → Moves (at m arguments_from purpose this callee done (an_expression e left) place rest) m r m₁
+      → Moves (at m arguments_from call done (an_expression e left)) m r m₁
   argument_stops h i k = reached_stops (at m rule.visit e) with_argument m m₁ r h i k
 
   -- where it is not, it is visited
-  pub argument_visited : (m' : Machine) → Reaches (at m rule.visit e) m (Ok None) m₁ → Moves (at m₁ arguments_from purpose this callee done (an_expression e left) place rest) m₁ r m'
-      → Moves (at m arguments_from purpose this callee done (an_expression e left) place rest) m r m'
+  pub argument_visited : (m' : Machine) → Reaches (at m rule.visit e) m (Ok None) m₁ → Moves (at m₁ arguments_from call done (an_expression e left)) m₁ r m'
+      → Moves (at m arguments_from call done (an_expression e left)) m r m'
   argument_visited m' k goes =
-      not_reached (at m rule.visit e) (λ functions go cx. arguments_from functions go cx purpose this callee done (an_expression e left) place rest) m m₁ r m' k goes
+      not_reached (at m rule.visit e) (λ functions go cx. arguments_from functions go cx call done (an_expression e left)) m m₁ r m' k goes

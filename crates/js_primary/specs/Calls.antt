@@ -1,7 +1,5 @@
 -- Calls as frames have them, each with the suffixes behind it (ECMA-262 5.1, section 11.2.3).
 use Rattle.std.specs.Prelude.{List}
-use Rattle.js_tree.specs.declared.place.Place.{Place}
-use Rattle.js_tree.specs.declared.expression.Suffix.{Suffix}
 use Rattle.js_tree.specs.Tree.{Expressions, FunctionTree}
 use Rattle.js_tree.specs.View.{suffixes_of}
 use Rattle.heap_values.specs.declared.value.Value.{Value}
@@ -9,19 +7,17 @@ use Rattle.run_trees.specs.Runs.{◌>>=◌}
 use Rattle.js_evaluation.specs.State.{Does, global_object}
 use Rattle.js_evaluation.specs.Objects.{Context}
 use Rattle.js_evaluation.specs.Conversions as convert
-use Rattle.js_frames.specs.declared.expression_frame.Aim.{Aim}
+use Rattle.js_frames.specs.declared.expression_frame.OpenCall.{OpenCall}
 use Rattle.js_frames.specs.RestOf.{suffixes_by}
 use Rattle.js_frames.specs.Rules as rule
 use Rattle.js_frames.specs.Rules.{Within}
 
 module _ (functions : List FunctionTree) (go : Within) (cx : Context) where
   -- a call, and then the suffixes behind it
-  abbrev pub call_value : Aim → Value → Value → List Value → Place → List Suffix → Does Value
-  call_value purpose this callee vs place rest = convert.call_value (rule.call functions go cx) callee this vs place
-      >>= (λ w. suffixes_by functions go cx purpose global_object w (suffixes_of rest))
+  abbrev pub call_value : OpenCall → List Value → Does Value
+  call_value call vs = convert.call_value (rule.call functions go cx) call.callee call.this vs call.place
+      >>= (λ w. suffixes_by functions go cx call.aim global_object w (suffixes_of call.rest.now))
 
   -- the arguments, the call, and then the suffixes behind it
-  abbrev pub arguments_from : Aim → Value → Value → List Value → Expressions → Place → List Suffix → Does Value
-  arguments_from purpose this callee done left place rest =
-      rule.arguments_from functions go cx done left >>= (λ vs. convert.call_value (rule.call functions go cx) callee this vs place
-      >>= (λ w. suffixes_by functions go cx purpose global_object w (suffixes_of rest)))
+  abbrev pub arguments_from : OpenCall → List Value → Expressions → Does Value
+  arguments_from call done left = rule.arguments_from functions go cx done left >>= (λ vs. call_value call vs)

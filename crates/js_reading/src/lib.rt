@@ -19,10 +19,10 @@ pub use lookahead::{
 };
 pub use nodes::{before_in, chained, has_part, joined, suffixed_by, unbound, with_default};
 pub use operators::{
-    is_target, next_assign, next_at_level, next_binary, next_postfix, next_unary, next_update,
+    next_assign, next_at_level, next_binary, next_postfix, next_unary, next_update,
 };
 pub use reading::{
     Read, alone, broken, continued, expect, expect_while, next_name, place_at, read_name,
     read_parameters, read_semicolon, read_word, refused,
 };
-pub use turns::row;
+pub use turns::{row, row_behind};

@@ -1,14 +1,10 @@
-// Operators by their tokens, and targets (ECMA-262 5.1, sections 11.3 to 11.13).
-ghost use Rattle.std.specs.Prelude.{◌≡◌, false};
-ghost use Rattle.js_tree.specs.View.{suffixes_of};
+// Operators by their tokens (ECMA-262 5.1, sections 11.3 to 11.13).
+ghost use Rattle.std.specs.Prelude.{◌≡◌};
 ghost use Rattle.js_grammar.specs.Operators as spec;
 
 use js_grammar::Form;
 use js_lexer::keyword_of;
-use js_tree::{
-    AssignOp, BinaryOp, Expression, ExpressionNode, Keyword, Sign, Suffix, SuffixNode, Token,
-    TokenKind, UnaryOp, UpdateOp,
-};
+use js_tree::{AssignOp, BinaryOp, Keyword, Sign, Token, TokenKind, UnaryOp, UpdateOp};
 
 fn unary_sign(sign: Sign) -> Option<UnaryOp>
     ensures { result ≡ spec.unary_sign sign }
@@ -207,28 +203,4 @@ pub fn next_assign(tokens: &[Token]) -> Option<AssignOp>
             _ => None,
         },
     }
-}
-
-/// Whether a value can be assigned to it: a name, a member or an index.
-pub fn is_target(e: &Expression) -> bool
-    ensures { result ≡ spec.is_target e.now }
-{
-    match &e.node {
-        ExpressionNode::Name(_) => true,
-        ExpressionNode::Suffixed(_, suffixes) => ends_in_part(suffixes.as_slice()),
-        _ => false,
-    }
-}
-
-/// Whether the last suffix is a member or an index.
-fn ends_in_part(suffixes: &[Suffix]) -> bool
-    ensures { result ≡ spec.ends_in_part false (suffixes_of suffixes.now) }
-{
-    let mut part = false;
-    let mut rest = suffixes;
-    while let [suffix, others @ ..] = rest {
-        part = matches!(&suffix.node, SuffixNode::Member(_) | SuffixNode::Index(_));
-        rest = others;
-    }
-    part
 }

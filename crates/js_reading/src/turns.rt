@@ -1,7 +1,8 @@
 // Rows of parts.
-ghost use Rattle.std.specs.Prelude.{◌≡◌, ◌++◌, ◌∷◌, [], OnOk};
-ghost use Rattle.js_grammar.specs.Readers.{Reader, row};
-ghost use Rattle.js_reading.specs.Reads.{Reads};
+ghost use Rattle.std.specs.Prelude.{◌≡◌, ◌++◌, ◌∷◌, [], Ok, OnOk};
+ghost use Rattle.js_grammar.specs.declared.turn.Turn.TheVariants.{More};
+ghost use Rattle.js_grammar.specs.Readers.{Reader, row, row_of};
+ghost use Rattle.js_reading.specs.Reads.{Reads, with_front};
 
 use crate::reading::Read;
 use js_grammar::Turn;
@@ -19,10 +20,39 @@ pub fn row<'a, T: Drop, F: Fn(&'a [Token]) -> Read<'a, Turn<T>>>(
     requires { F.IsAlwaysCallable turn }
     ensures { (reader : Reader (Turn T)) → ((before : _) (given : _) → F.post turn before given → Reads (reader before.now) given) → Reads (row reader tokens.now) result }
 {
-    let mut all = Vec::new(alloc);
-    let mut rest = tokens;
     // Each turn but the last takes a token at least.
-    for _turn in 0..tokens.len() + 1 {
+    parts_behind(Vec::new(alloc), tokens, tokens.len() + 1, turn)
+}
+
+/// The same row behind its first turn, which gave a part and left the rest of the tokens.
+pub fn row_behind<'a, T: Drop, F: Fn(&'a [Token]) -> Read<'a, Turn<T>>>(
+    alloc: Global,
+    first: T,
+    tokens: &[Token],
+    rest: &'a [Token],
+    turn: F,
+) -> Read<'a, List<T>>
+    requires { F.IsAlwaysCallable turn }
+    ensures { (reader : Reader (Turn T)) → ((before : _) (given : _) → F.post turn before given → Reads (reader before.now) given) → reader tokens.now ≡ Ok (More first, rest.now) → Reads (row reader tokens.now) result }
+{
+    let mut all = Vec::new(alloc);
+    add(&mut all, first)?;
+    parts_behind(all, rest, tokens.len(), turn)
+}
+
+/// The parts of at most so many turns, behind those that are there.
+fn parts_behind<'a, T: Drop, F: Fn(&'a [Token]) -> Read<'a, Turn<T>>>(
+    before: Vec<T>,
+    tokens: &'a [Token],
+    turns: usize,
+    turn: F,
+) -> Read<'a, List<T>>
+    requires { F.IsAlwaysCallable turn }
+    ensures { (reader : Reader (Turn T)) → ((before : _) (given : _) → F.post turn before given → Reads (reader before.now) given) → Reads (with_front before.items (row_of reader turns tokens.now)) result }
+{
+    let mut all = before;
+    let mut rest = tokens;
+    for _turn in 0..turns {
         let (one, after) = turn(rest)?;
         match one {
             Turn::More(x) => {

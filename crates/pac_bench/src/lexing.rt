@@ -35,7 +35,7 @@ fn lexed(alloc: Global, source: &Text, count: u32) -> Result<u64>
     let mut sum = 0u64;
     for _turn in 0..count {
         match lex(alloc, source) {
-            Ok(tokens) => sum = sum.saturating_add(tokens.len() as u64),
+            Ok(lexed) => sum = sum.saturating_add(lexed.tokens.len() as u64),
             Err(_) => bail!("a script that the lexer reads"),
         }
     }

@@ -6,7 +6,7 @@ use case_rows::text;
 use js_lexer::lex;
 use js_parser::{read_script, read_tokens};
 use js_printer::print;
-use js_tree::{Place, ReadAnswer, Script};
+use js_tree::{ReadAnswer, Script};
 use std::alloc::Global;
 use utf16_text::Text;
 
@@ -68,14 +68,15 @@ pub(crate) fn within_room(alloc: Global, fields: &[&str]) -> Result<String> {
         bail!("a script and the room for nesting");
     };
     let source = source_in(alloc, source)?;
-    let end = Place {
-        line: 1,
-        column: source.len() as u32 + 1,
-    };
-    let Ok(tokens) = lex(alloc, &source) else {
+    let Ok(lexed) = lex(alloc, &source) else {
         bail!("no tokens");
     };
-    match read_tokens(alloc, tokens.as_slice(), end, room.parse::<u32>()?) {
+    match read_tokens(
+        alloc,
+        lexed.tokens.as_slice(),
+        lexed.end,
+        room.parse::<u32>()?,
+    ) {
         Ok(body) => Ok(format!(in alloc; "{}", body.len())?),
         Err(answer) => refusal(alloc, answer),
     }

@@ -12,7 +12,7 @@ pub(crate) fn of_script(alloc: Global, fields: &[&str]) -> Result<String> {
         bail!("a script");
     };
     match lex(alloc, &source_in(alloc, source)?) {
-        Ok(tokens) => in_one_line(alloc, tokens.as_slice()),
+        Ok(lexed) => in_one_line(alloc, lexed.tokens.as_slice()),
         Err(answer) => refusal(alloc, answer),
     }
 }

@@ -6,8 +6,8 @@ use Rattle.js_primary.specs.Calls as spec
 use Rattle.js_primary.proofs.calls.arguments_from.Given as goal
 
 abbrev pub invariant-loop-left : goal.invariant-loop-left
-invariant-loop-left l = Carries (at l.fn.machine spec.arguments_from l.aim l.fn.this l.fn.callee l.fn.done (expressions_of l.fn.left) l.place l.rest) l.fn.machine
-    (at l.machine spec.arguments_from l.aim l.this l.callee l.done (expressions_of l.left) l.place l.rest) l.machine
+invariant-loop-left l = Carries (at l.fn.machine spec.arguments_from l.fn.call l.fn.done (expressions_of l.fn.left)) l.fn.machine
+    (at l.machine spec.arguments_from l.call l.done (expressions_of l.left)) l.machine
 
 abbrev pub decreases-loop-left : goal.decreases-loop-left
 decreases-loop-left l = length l.left

@@ -1,0 +1,6 @@
+use Rattle.std.proofs.Common.{rules}
+use Rattle.js_parser.proofs.parser.Parser.row_behind.Goals as goal
+
+pub returns : goal.returns
+returns g c first =
+    c.row_behind.ensures (g.R.Row.turn c.args.parts.now c.args.self.now.end (g.N.Nested.readers c.args.self.now.nested)) (λ before given post. search rules) first
