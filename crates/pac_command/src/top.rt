@@ -27,6 +27,8 @@ use utf16_text::Memory;
 
 /// Does what the words after the program's name ask for, writes the output to `out` and returns its status.
 ///
+/// A process is expected to end with it: the memory of a script's tree is left to the system.
+///
 /// `runs` counts the runs of scripts. Only `resolve` and `ask` touch the link and the dice, and only `resolve` and
 /// `map` the clock, once, where the words don't say the moment.
 pub fn pac<F: Files, K: Sink, N: Link, C: Clock, D: Dice, L: Ledger>(
