@@ -1,4 +1,1 @@
-pub mod Commas
 pub mod Deep
-pub mod Levels
-pub mod Suffixes

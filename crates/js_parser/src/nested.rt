@@ -1,10 +1,5 @@
-// The parts that count as nested, and what reads them.
-ghost use Rattle.js_grammar.specs.Expressions.{Deeper};
-ghost use Rattle.js_reading.specs.Reads.{Reads};
-
+// The parts that count as nested.
 use js_grammar::{Around, Form};
-use js_reading::Read;
-use js_tree::{Expression, Statement, Token};
 
 /// A nested part that is an expression.
 #[derive(Clone, Copy)]
@@ -23,37 +18,4 @@ pub enum StatementPart {
     Statement(Around),
     /// A block of `try`.
     Block(Around),
-}
-
-/// What reads nested parts.
-pub trait Nested {
-    /// What its calls need.
-    ghost holds: { Self → Type 0 };
-
-    /// How its calls read nested parts.
-    ghost readers: { Self → Deeper };
-
-    /// An assignment expression.
-    fn value<'a>(&self, form: Form, tokens: &'a [Token]) -> Read<'a, Expression>
-        requires { holds self.now }
-        ensures { Reads ((readers self.now).value form tokens.now) result };
-
-    /// The operand of a prefix operator.
-    fn operand<'a>(&self, tokens: &'a [Token]) -> Read<'a, Expression>
-        requires { holds self.now }
-        ensures { Reads ((readers self.now).operand tokens.now) result };
-
-    /// The callee of `new`.
-    fn callee<'a>(&self, tokens: &'a [Token]) -> Read<'a, Expression>
-        requires { holds self.now }
-        ensures { Reads ((readers self.now).callee tokens.now) result };
-
-    fn statement<'a>(&self, around: Around, tokens: &'a [Token]) -> Read<'a, Statement>
-        requires { holds self.now }
-        ensures { Reads ((readers self.now).statement around tokens.now) result };
-
-    /// A block of `try`.
-    fn block<'a>(&self, around: Around, tokens: &'a [Token]) -> Read<'a, Statement>
-        requires { holds self.now }
-        ensures { Reads ((readers self.now).block around tokens.now) result };
 }

@@ -2,7 +2,8 @@
 ghost use Rattle.js_grammar.specs.Statements as spec;
 ghost use Rattle.js_parser.specs.Nested.{ReadsNested};
 
-use crate::nested::{ExpressionPart, Nested, StatementPart};
+use crate::nested::{ExpressionPart, StatementPart};
+use js_expression_parser::Nested;
 use js_grammar::{Around, Form};
 use js_reading::Read;
 use js_tree::{Expression, Place, Statement, Token};

@@ -4,8 +4,9 @@ ghost use Rattle.js_reading.specs.Reads.{Reads};
 ghost use Rattle.js_parser.specs.Nested.{expression_part, statement_part};
 
 use crate::nested::{ExpressionPart, StatementPart};
-use crate::parser::Parser;
 use crate::reader::PartReader;
+use crate::statements::{block, statement};
+use js_expression_parser::Parser;
 use js_grammar::LeftSide;
 use js_reading::{Read, refused};
 use js_tree::{Expression, Place, ReadKind, Statement, Token};
@@ -69,7 +70,7 @@ pub fn read_statement<'a>(
         },
     };
     match part {
-        StatementPart::Statement(around) => parser.statement(around, tokens),
-        StatementPart::Block(around) => parser.block(around, tokens),
+        StatementPart::Statement(around) => statement(&parser, around, tokens),
+        StatementPart::Block(around) => block(&parser, around, tokens),
     }
 }

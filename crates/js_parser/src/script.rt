@@ -3,10 +3,9 @@ ghost use Rattle.std.specs.Prelude.{◌≤◌, length};
 ghost use Rattle.js_grammar.specs.Reading.{Gives};
 ghost use Rattle.js_grammar.specs.Statements.{script_within, script_of_text};
 
-use crate::parser::Parser;
 use crate::reader::PartReader;
 use crate::root::{read_expression, read_statement};
-use crate::statements::Statements;
+use js_expression_parser::{Parser, Statements};
 use js_lexer::lex;
 use js_reading::at_top;
 use js_tree::{Place, ReadAnswer, ReadKind, Script, StatementList, Token};

@@ -1,6 +1,6 @@
 use Rattle.std.proofs.Common.{◌≡◌, ◌+◌, ◌*◌, Ok}
 use Rattle.js_grammar.specs.Expressions.{level}
-use Rattle.js_parser.proofs.parser.+levels.Given as goal
+use Rattle.js_expression_parser.proofs.parser.+levels.Given as goal
 
 abbrev pub decreases-Parser::level : goal.decreases-Parser::level
 decreases-Parser::level g l = 4 * l.level

@@ -1,6 +1,6 @@
 // What stands behind a part.
 ghost use Rattle.js_grammar.specs.Readers.{listed};
-ghost use Rattle.js_parser.specs.Behind as spec;
+ghost use Rattle.js_expression_parser.specs.Behind as spec;
 ghost use Rattle.js_reading.specs.Reads.{Reads};
 
 use js_grammar::Turn;

@@ -1,5 +1,5 @@
 use Rattle.std.proofs.Common.{rules}
-use Rattle.js_parser.proofs.parser.Parser.row_behind.Goals as goal
+use Rattle.js_expression_parser.proofs.parser.Parser.row_behind.Goals as goal
 
 pub returns : goal.returns
 returns g c first =

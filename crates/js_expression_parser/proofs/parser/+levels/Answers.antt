@@ -2,8 +2,8 @@ use Rattle.std.proofs.Common.{◌≡◌, ◌-◌, Option, None, Some, false, ref
 use Rattle.std.specs.Option.{is_some}
 use Rattle.std.proofs.lemmas.Result.{err_from_is_err_and}
 use Rattle.js_tree.specs.declared.operators.BinaryOp.{BinaryOp}
-use Rattle.js_parser.proofs.Levels as levels
-use Rattle.js_parser.proofs.parser.+levels.Goals as goal
+use Rattle.js_expression_parser.proofs.Levels as levels
+use Rattle.js_expression_parser.proofs.parser.+levels.Goals as goal
 
 none_found : (op : Option BinaryOp) → is_some op ≡ false → op ≡ None
 none_found None is = refl

@@ -1,7 +1,7 @@
 use Rattle.std.proofs.Common.{Some, sym, ap, ◌∙◌}
 use Rattle.std.proofs.lemmas.Result.{err_from_is_err_and}
-use Rattle.js_parser.proofs.Commas.{all_fail, all_give, more_come}
-use Rattle.js_parser.proofs.parser.Parser.expression.Goals as goal
+use Rattle.js_expression_parser.proofs.Commas.{all_fail, all_give, more_come}
+use Rattle.js_expression_parser.proofs.parser.Parser.expression.Goals as goal
 
 pub returns-in_err-all : goal.returns-in_err-all
 returns-in_err-all g c =

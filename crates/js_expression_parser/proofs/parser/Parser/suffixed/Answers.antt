@@ -1,5 +1,5 @@
-use Rattle.js_parser.proofs.Suffixes.{stands_alone}
-use Rattle.js_parser.proofs.parser.Parser.suffixed.Goals as goal
+use Rattle.js_expression_parser.proofs.Suffixes.{stands_alone}
+use Rattle.js_expression_parser.proofs.parser.Parser.suffixed.Goals as goal
 
 pub returns-then-not-begins_suffix : goal.returns-then-not-begins_suffix
 returns-then-not-begins_suffix g c =
