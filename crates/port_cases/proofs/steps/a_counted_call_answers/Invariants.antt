@@ -1,4 +1,4 @@
-use Rattle.step_counter.proofs.steps.tests.a_counted_call_answers.Given as goal
+use Rattle.port_cases.proofs.steps.a_counted_call_answers.Given as goal
 
 -- the ledger is that of the blank one that is handed over
 abbrev pub ghosts-counted : goal.ghosts-counted
