@@ -1,8 +1,8 @@
 //! How the parser of scripts reads tokens, without nested parts: what comes next, operators by their tokens, names and
 //! signs that must stand somewhere, and what the grammar decides about nodes; and rows of parts, whatever reads a part.
 //!
-//! Each function gives what js_grammar says of it. It stands on js_lexer, js_grammar and js_tree, and js_parser alone
-//! uses it.
+//! Each function gives what js_grammar says of it. It stands on js_lexer, js_grammar and js_tree, and the parser's other
+//! two crates alone use it.
 #![tactic(auto)]
 
 mod around;
