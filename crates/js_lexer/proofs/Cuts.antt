@@ -4,7 +4,7 @@ use Rattle.std.specs.Prelude.{find, nat_eq, nat_lt, option_to_list}
 use Rattle.std.specs.List.{prefix_len, starts_with, list_all, list_any}
 use Rattle.std.specs.Option.{option_map}
 use Rattle.std.proofs.Math.Bool.{and-false}
-use Rattle.std.proofs.lemmas.Bool.{and_parts, eqb-true, ne_eqb, not-true, or_parts}
+use Rattle.std.proofs.lemmas.Bool.{and_parts, eqb-true, not-true, or_parts}
 use Rattle.utf16_text.specs.Letters.{is_break_unit, is_space_unit}
 use Rattle.utf16_text.specs.Digits.{is_digit, is_hexadecimal, value_of}
 use Rattle.js_tree.specs.declared.place.Place.{Place}
@@ -17,6 +17,7 @@ use Rattle.js_grammar.specs.Units.{begins_with, first_passes, is_word_part, is_w
 use Rattle.js_grammar.specs.Literals.{character_at, decimal_at, hexadecimal_at, in_front, is_fraction_mark, is_hexadecimal_literal, literal, number_at, text_at, text_from}
 use Rattle.js_grammar.specs.Signs.{sign_spelling, signs}
 use Rattle.js_grammar.specs.Tokens.{comment_length, comment_piece, is_inline, is_quote, piece_at, sign_piece, slash_piece, text_piece, word_piece}
+use Rattle.js_lexer.proofs.Runs.{failing_unit, other_unit, run_ends, run_more}
 
 -- whether CR LF (13, 10) stands across the place behind so many units
 abbrev pub splits : ℕ → List ℕ → Bool
@@ -47,19 +48,6 @@ goes_behind (suc (suc n)) (u ∷ v ∷ vs) p whole = by_units (nat_eq u 13 && na
     by_units false both false is on = rw (both, is) (on (record { line = p.line; column = p.column + 1 }))
 
 -- ---- runs of units
-
-run_more : (test : ℕ → Bool) (u : ℕ) (us : List ℕ) → test u ≡ true → prefix_len test (u ∷ us) ≡ suc (prefix_len test us)
-run_more test u us is = rw is (omega arith)
-
-run_ends : (test : ℕ → Bool) (u : ℕ) (us : List ℕ) → test u ≡ false → prefix_len test (u ∷ us) ≡ 0
-run_ends test u us is = rw is refl
-
--- a unit that passes a test is none that fails it
-other_unit : (test : ℕ → Bool) (u n : ℕ) → test n ≡ false → test u ≡ true → nat_eq u n ≡ false
-other_unit test u n fails is = ne_eqb u n (λ e. let same : test u ≡ false = ap test e ∙ fails in cc)
-
-failing_unit : (test : ℕ → Bool) (u n : ℕ) → test n ≡ true → test u ≡ false → nat_eq u n ≡ false
-failing_unit test u n is fails = ne_eqb u n (λ e. let same : test u ≡ true = ap test e ∙ is in cc)
 
 -- a run that takes each LF
 pub run_takes_lf : (test : ℕ → Bool) → test 10 ≡ true → (u : ℕ) (us : List ℕ) → splits (suc (prefix_len test us)) (u ∷ us) ≡ false

@@ -6,3 +6,4 @@ pub mod Lines
 pub mod Placed
 pub mod TextLoop
 mod Keywords
+mod Runs

@@ -2,11 +2,11 @@
 use Rattle.std.proofs.Common.{◌≡◌, ◌+◌, ◌&&◌, Bool, true, false, cond, ℕ, suc, List, [], ◌∷◌, drop, refl, sym, ap, ◌∙◌, arith}
 use Rattle.std.specs.Prelude.{nat_eq}
 use Rattle.std.specs.List.{prefix_len}
-use Rattle.std.proofs.lemmas.Grind.{common_steps}
 use Rattle.utf16_text.specs.Letters.{is_break_unit}
 use Rattle.js_tree.specs.declared.place.Place.{Place}
 use Rattle.js_grammar.specs.Units.{begins_with, place_after}
 use Rattle.js_grammar.specs.Tokens.{is_inline}
+use Rattle.js_lexer.proofs.Runs.{failing_unit, run_ends, run_more}
 
 abbrev pub moved : Place → ℕ → Place
 moved place n = record { line = place.line; column = place.column + n }
@@ -14,15 +14,6 @@ moved place n = record { line = place.line; column = place.column + n }
 -- how many units there are up to the line's end
 abbrev pub plain : List ℕ → ℕ
 plain units = prefix_len is_inline units
-
-not_return : (u : ℕ) → is_break_unit u ≡ false → nat_eq u 13 ≡ false
-not_return u is = grind (arith, common_steps)
-
-one_more : (u : ℕ) (us : List ℕ) → is_break_unit u ≡ false → plain (u ∷ us) ≡ suc (plain us)
-one_more u us is = rw is (omega arith)
-
-none_more : (u : ℕ) (us : List ℕ) → is_break_unit u ≡ true → plain (u ∷ us) ≡ 0
-none_more u us is = rw is refl
 
 unmoved : (place : Place) → place ≡ moved place 0
 unmoved place =
@@ -38,14 +29,14 @@ goes_along (u ∷ us) place = by_unit (goes_along us (moved place 1)) (is_break_
     to n = place_after (moved place n) (drop n (u ∷ us))
 
     by_unit : place_after (moved place 1) us ≡ place_after (moved (moved place 1) (plain us)) (drop (plain us) us) → (b : Bool) → is_break_unit u ≡ b → place_after place (u ∷ us) ≡ to (plain (u ∷ us))
-    by_unit next true is = ap (λ q. place_after q (u ∷ us)) (unmoved place) ∙ sym (ap to (none_more u us is))
+    by_unit next true is = ap (λ q. place_after q (u ∷ us)) (unmoved place) ∙ sym (ap to (run_ends is_inline u us (rw is refl)))
     by_unit next false is =
-        let step : place_after place (u ∷ us) ≡ place_after (moved place 1) us = rw (is, not_return u is) refl in
+        let step : place_after place (u ∷ us) ≡ place_after (moved place 1) us = rw (is, failing_unit is_break_unit u 13 refl is) refl in
         let column : place.column + 1 + plain us ≡ place.column + suc (plain us) = omega arith in
         step
         ∙ next
         ∙ ap (λ (c : ℕ). place_after (record { line = place.line; column = c }) (drop (plain us) us)) column
-        ∙ sym (ap to (one_more u us is))
+        ∙ sym (ap to (run_more is_inline u us (rw is refl)))
 
 stops : (units : List ℕ) (end : ℕ) (others : List ℕ) → drop (plain units) units ≡ end ∷ others → is_break_unit end ≡ true
 stops [] end others is = cc
@@ -53,9 +44,9 @@ stops (u ∷ us) end others is = by_unit (stops us end others) (is_break_unit u)
   where
     by_unit : (drop (plain us) us ≡ end ∷ others → is_break_unit end ≡ true) → (b : Bool) → is_break_unit u ≡ b → is_break_unit end ≡ true
     by_unit next true h =
-        let same : u ∷ us ≡ end ∷ others = ap (λ n. drop n (u ∷ us)) (sym (none_more u us h)) ∙ is in
+        let same : u ∷ us ≡ end ∷ others = ap (λ n. drop n (u ∷ us)) (sym (run_ends is_inline u us (rw h refl))) ∙ is in
         cc
-    by_unit next false h = next (ap (λ n. drop n (u ∷ us)) (sym (one_more u us h)) ∙ is)
+    by_unit next false h = next (ap (λ n. drop n (u ∷ us)) (sym (run_more is_inline u us (rw h refl))) ∙ is)
 
 pub is_last : (units : List ℕ) (place : Place) → drop (plain units) units ≡ [] → place_after place units ≡ moved place (plain units)
 is_last units place none = goes_along units place ∙ ap (λ us. place_after (moved place (plain units)) us) none
