@@ -1,3 +1,4 @@
 pub mod Commas
-pub mod Levels
+pub mod Costs
+pub mod Rows
 pub mod Suffixes

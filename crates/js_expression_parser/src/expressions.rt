@@ -1,10 +1,11 @@
 // Expressions, by plain descent (ECMA-262 5.1, section 11).
-ghost use Rattle.std.specs.Prelude.{◌≡◌, ◌<◌, ◌≤◌, false, Ok};
+ghost use Rattle.std.specs.Prelude.{◌≡◌, None, Ok, Some, false};
 ghost use Rattle.js_tree.specs.declared.place.Place.{Place};
+ghost use Rattle.js_tree.specs.declared.sign.Sign.TheVariants as sign;
 ghost use Rattle.js_grammar.specs.declared.turn.Turn.TheVariants.{End};
 ghost use Rattle.js_tree.specs.View.{expression_of};
 ghost use Rattle.js_grammar.specs.Words.{keyword_of};
-ghost use Rattle.js_grammar.specs.Readers.{row};
+ghost use Rattle.js_grammar.specs.Readers.{rest_of};
 ghost use Rattle.js_grammar.specs.Expressions as spec;
 ghost use Rattle.js_grammar.specs.Expressions.{Deeper};
 ghost use Rattle.js_reading.specs.Reads.{Reads};
@@ -16,14 +17,14 @@ use crate::statements::Statements;
 use js_grammar::{Form, LeftSide, Turn, is_target};
 use js_lexer::keyword_of;
 use js_reading::{
-    Read, chained, expect, in_function, is_accessor, joined, next_assign, next_at_level,
-    next_binary, next_name, next_postfix, next_sign, next_unary, next_update, place_at, read_name,
-    read_parameters, read_word, refused, refused_word, rest_of, row, suffixed_by, unbound,
+    Read, expect, in_function, is_accessor, joined, next_assign, next_name, next_postfix,
+    next_sign, next_unary, next_update, place_at, read_name, read_parameters, read_word, refused,
+    refused_word, rest_of, suffixed_by, unbound,
 };
 use js_tree::{
-    BoundName, Expression, ExpressionList, ExpressionNode, Function, Keyword, NameList, Operand,
-    OperandList, Place, Property, ReadAnswer, ReadKind, Sign, Suffix, SuffixNode, Token, TokenKind,
-    UpdateForm,
+    AssignOp, BoundName, Expression, ExpressionList, ExpressionNode, Function, Keyword, NameList,
+    Place, Property, ReadAnswer, ReadKind, Sign, Suffix, SuffixNode, Token, TokenKind, UnaryOp,
+    UpdateForm, UpdateOp,
 };
 use utf16_text::Text;
 
@@ -314,6 +315,7 @@ impl<N: Nested> Parser<N> {
     }
 
     /// An expression that begins with a word, behind that word.
+    #[inline(never)]
     fn word_value<'a>(&self, word: &Text, place: Place, tokens: &'a [Token]) -> Read<'a, Expression>
         requires { N.holds self.now.nested }
         ensures { Reads (spec.word_value self.now.end (N.readers self.now.nested) (keyword_of word.now) word.now place tokens.now) result }
@@ -357,18 +359,32 @@ impl<N: Nested> Parser<N> {
             }
             TokenKind::Word(word) => self.word_value(word, place, rest),
             TokenKind::Sign(Sign::LeftParenthesis) => self.in_parentheses(tokens),
-            TokenKind::Sign(Sign::LeftBracket) => {
-                let (items, rest) = self.row(&Items, rest)?;
-                let node = ExpressionNode::Array(items);
-                Ok((Expression { place, node }, rest))
-            }
-            TokenKind::Sign(Sign::LeftBrace) => {
-                let (properties, rest) = self.row(&Properties, rest)?;
-                let node = ExpressionNode::Object(properties);
-                Ok((Expression { place, node }, rest))
-            }
+            TokenKind::Sign(Sign::LeftBracket) => self.array(place, tokens),
+            TokenKind::Sign(Sign::LeftBrace) => self.object(place, tokens),
             TokenKind::Sign(_) => Err(ReadAnswer::Refused(ReadKind::Unexpected, place)),
         }
+    }
+
+    /// An array literal from its `[` on.
+    #[inline(never)]
+    fn array<'a>(&self, place: Place, tokens: &'a [Token]) -> Read<'a, Expression>
+        requires { N.holds self.now.nested }
+        ensures { Reads (spec.sign_value self.now.end (N.readers self.now.nested) sign.LeftBracket place tokens.now (rest_of tokens.now)) result }
+    {
+        let (items, rest) = self.row(&Items, rest_of(tokens))?;
+        let node = ExpressionNode::Array(items);
+        Ok((Expression { place, node }, rest))
+    }
+
+    /// An object literal from its `{` on.
+    #[inline(never)]
+    fn object<'a>(&self, place: Place, tokens: &'a [Token]) -> Read<'a, Expression>
+        requires { N.holds self.now.nested }
+        ensures { Reads (spec.sign_value self.now.end (N.readers self.now.nested) sign.LeftBrace place tokens.now (rest_of tokens.now)) result }
+    {
+        let (properties, rest) = self.row(&Properties, rest_of(tokens))?;
+        let node = ExpressionNode::Object(properties);
+        Ok((Expression { place, node }, rest))
     }
 
     /// An expression with its members, indexes and calls.
@@ -410,76 +426,37 @@ impl<N: Nested> Parser<N> {
         requires { N.holds self.now.nested }
         ensures { Reads (spec.unary self.now.end (N.readers self.now.nested) tokens.now) result }
     {
-        let place = place_at(self.end, tokens);
-        if let Some(op) = next_unary(tokens) {
-            let (operand, rest) = self.nested.operand(rest_of(tokens))?;
-            return Ok((Expression::unary(self.alloc, place, op, operand)?, rest));
+        match (next_unary(tokens), next_update(tokens)) {
+            (Some(op), _) => self.operated(op, tokens),
+            (None, Some(op)) => self.updated(op, tokens),
+            (None, None) => self.postfix(tokens),
         }
-        let Some(op) = next_update(tokens) else {
-            return self.postfix(tokens);
-        };
+    }
+
+    /// A prefix operator and its operand.
+    #[inline(never)]
+    fn operated<'a>(&self, op: UnaryOp, tokens: &'a [Token]) -> Read<'a, Expression>
+        requires { N.holds self.now.nested }
+        ensures { Reads (spec.unary_by self.now.end (N.readers self.now.nested) (Some op) None tokens.now) result }
+    {
+        let place = place_at(self.end, tokens);
+        let (operand, rest) = self.nested.operand(rest_of(tokens))?;
+        Ok((Expression::unary(self.alloc, place, op, operand)?, rest))
+    }
+
+    /// `++` or `--` and its operand.
+    #[inline(never)]
+    fn updated<'a>(&self, op: UpdateOp, tokens: &'a [Token]) -> Read<'a, Expression>
+        requires { N.holds self.now.nested }
+        ensures { Reads (spec.unary_by self.now.end (N.readers self.now.nested) None (Some op) tokens.now) result }
+    {
         let (target, rest) = self.nested.operand(rest_of(tokens))?;
         if !is_target(&target) {
             return Err(refused(self.end, ReadKind::Unexpected, tokens));
         }
+        let place = place_at(self.end, tokens);
         let node = Expression::update(self.alloc, place, UpdateForm::Prefix, op, target)?;
         Ok((node, rest))
-    }
-
-    /// An operator of a level with its operand, where one stands here.
-    #[tactic(auto, unfolding(js_grammar::specs::Expressions::an_operand))]
-    #[cycle(levels)]
-    fn an_operand<'a>(&self, form: Form, level: u32, tokens: &'a [Token]) -> Read<'a, Turn<Operand>>
-        requires reads { N.holds self.now.nested }
-        requires level { level < 10 }
-        ensures { Reads (spec.an_operand self.now.end form level (spec.level self.now.end (N.readers self.now.nested) form level) tokens.now) result }
-    {
-        let Some(op) = next_at_level(form, level, tokens) else {
-            return Ok((Turn::End, tokens));
-        };
-        let place = place_at(self.end, tokens);
-        let (value, rest) = self.level(form, level, rest_of(tokens))?;
-        Ok((Turn::More(Operand { place, op, value }), rest))
-    }
-
-    /// The operators of a level with their operands. They recur with the levels, so their turn is no `Row`.
-    #[cycle(levels)]
-    fn operands<'a>(&self, form: Form, level: u32, tokens: &'a [Token]) -> Read<'a, OperandList>
-        requires reads { N.holds self.now.nested }
-        requires level { level < 10 }
-        ensures { Reads (row (spec.an_operand self.now.end form level (spec.level self.now.end (N.readers self.now.nested) form level)) tokens.now) result }
-    {
-        row(
-            self.alloc,
-            tokens,
-            |rest: &[Token]|
-                requires reads { N.holds self.now.nested }
-                requires level { level < 10 }
-                ensures { Reads (spec.an_operand self.entry.now.end form level (spec.level self.entry.now.end (N.readers self.entry.now.nested) form level) rest.now) result }
-            { self.an_operand(form, level, rest) },
-        )
-    }
-
-    /// The operators of the levels below this one, the strongest first.
-    #[tactic(auto, unfolding(js_grammar::specs::Expressions::level))]
-    #[cycle(levels)]
-    fn level<'a>(&self, form: Form, level: u32, tokens: &'a [Token]) -> Read<'a, Expression>
-        requires reads { N.holds self.now.nested }
-        requires level { level ≤ 10 }
-        ensures { Reads (spec.level self.now.end (N.readers self.now.nested) form level tokens.now) result }
-    {
-        let place = place_at(self.end, tokens);
-        let (mut value, mut rest) = self.unary(tokens)?;
-        for below in 0..level {
-            // Without an operator here no level above has one.
-            if next_binary(form, rest).is_none() {
-                return Ok((value, rest));
-            }
-            let (others, after) = self.operands(form, below, rest)?;
-            value = chained(self.alloc, place, value, others)?;
-            rest = after;
-        }
-        Ok((value, rest))
     }
 
     #[tactic(auto, unfolding(js_grammar::specs::Expressions::conditional))]
@@ -488,11 +465,26 @@ impl<N: Nested> Parser<N> {
         ensures { Reads (spec.conditional self.now.end (N.readers self.now.nested) form tokens.now) result }
     {
         let place = place_at(self.end, tokens);
-        let (condition, rest) = self.level(form, 10, tokens)?;
-        let Some(Sign::Question) = next_sign(rest) else {
-            return Ok((condition, rest));
-        };
-        let (where_true, rest) = self.nested.value(form, rest_of(rest))?;
+        let (condition, rest) = self.operators(form, tokens)?;
+        match next_sign(rest) {
+            Some(Sign::Question) => self.choice(form, place, condition, rest),
+            _ => Ok((condition, rest)),
+        }
+    }
+
+    /// A condition and what is chosen by it, from its `?` on.
+    #[inline(never)]
+    fn choice<'a>(
+        &self,
+        form: Form,
+        place: Place,
+        condition: Expression,
+        tokens: &'a [Token],
+    ) -> Read<'a, Expression>
+        requires { N.holds self.now.nested }
+        ensures { Reads (spec.conditional_by self.now.end (N.readers self.now.nested) form (Some sign.Question) place condition tokens.now) result }
+    {
+        let (where_true, rest) = self.nested.value(form, rest_of(tokens))?;
         let rest = expect(self.end, Sign::Colon, rest)?;
         let (where_false, rest) = self.nested.value(form, rest)?;
         let node = Expression::conditional(self.alloc, place, condition, where_true, where_false)?;
@@ -505,14 +497,29 @@ impl<N: Nested> Parser<N> {
         ensures { Reads (spec.assignment self.now.end (N.readers self.now.nested) form tokens.now) result }
     {
         let (target, rest) = self.conditional(form, tokens)?;
-        let Some(op) = next_assign(rest) else {
-            return Ok((target, rest));
-        };
-        if !is_target(&target) {
-            return Err(refused(self.end, ReadKind::Unexpected, rest));
+        match next_assign(rest) {
+            Some(op) => self.assigned(form, op, target, rest),
+            None => Ok((target, rest)),
         }
-        let place = place_at(self.end, rest);
-        let (value, rest) = self.nested.value(form, rest_of(rest))?;
+    }
+
+    /// An assignment to this target, from its operator on.
+    #[inline(never)]
+    fn assigned<'a>(
+        &self,
+        form: Form,
+        op: AssignOp,
+        target: Expression,
+        tokens: &'a [Token],
+    ) -> Read<'a, Expression>
+        requires { N.holds self.now.nested }
+        ensures { Reads (spec.assigned_by self.now.end (N.readers self.now.nested) form (Some op) target tokens.now) result }
+    {
+        if !is_target(&target) {
+            return Err(refused(self.end, ReadKind::Unexpected, tokens));
+        }
+        let place = place_at(self.end, tokens);
+        let (value, rest) = self.nested.value(form, rest_of(tokens))?;
         Ok((
             Expression::assignment(self.alloc, place, target, op, value)?,
             rest,

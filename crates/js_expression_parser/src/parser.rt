@@ -51,6 +51,7 @@ impl<N: Nested> Parser<N> {
     }
 
     /// The same parts behind the first turn, which gave one and left the rest of the tokens.
+    #[inline(never)]
     pub fn row_behind<'a, R: Row>(
         &self,
         parts: &R,

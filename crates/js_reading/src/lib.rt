@@ -1,8 +1,8 @@
 //! How the parser of scripts reads tokens, without nested parts: what comes next, operators by their tokens, names and
 //! signs that must stand somewhere, and what the grammar decides about nodes; and rows of parts, whatever reads a part.
 //!
-//! Each function gives what js_grammar says of it. It stands on js_lexer, js_grammar and js_tree, and the parser's other
-//! two crates alone use it.
+//! Each function gives what js_grammar says of it. It stands on js_lexer, js_grammar and js_tree, and the other two
+//! crates of the parser alone use it.
 #![tactic(auto)]
 
 mod around;
@@ -19,7 +19,7 @@ pub use lookahead::{
 };
 pub use nodes::{before_in, chained, has_part, joined, suffixed_by, unbound, with_default};
 pub use operators::{
-    next_assign, next_at_level, next_binary, next_postfix, next_unary, next_update,
+    level_of, next_assign, next_at_level, next_binary, next_postfix, next_unary, next_update,
 };
 pub use reading::{
     Read, alone, broken, continued, expect, expect_while, next_name, place_at, read_name,

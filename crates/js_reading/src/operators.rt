@@ -133,7 +133,7 @@ pub fn next_binary(form: Form, tokens: &[Token]) -> Option<BinaryOp>
 }
 
 /// The level of an operator: 0 binds strongest.
-fn level_of(op: BinaryOp) -> u32
+pub fn level_of(op: BinaryOp) -> u32
     ensures { result ≡ spec.level_of op }
 {
     match op {
