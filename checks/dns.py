@@ -3,6 +3,7 @@
 Without dnsmasq (a Debian package) its part says 'skipped'. The commands are run as `./pac`, or as the words of the
 environment's PAC.
 """
+import itertools
 import os
 import shlex
 import shutil
@@ -14,6 +15,8 @@ import threading
 import time
 
 PAC = shlex.split(os.environ.get("PAC", "./pac"))
+# a machine may be slow: where nothing is lost, a reply has ten seconds
+PATIENT = ["--wait=100"]
 CONFIGURATION = """no-resolv
 no-hosts
 local=/example/
@@ -104,7 +107,15 @@ def reply(number, octet=9, flags=0x8180):
 
 def compare(failures, name, found, expected):
     if found != expected:
-        failures.append(f"{name}: {found!r} in place of {expected!r}")
+        failures.append(f"{name}: {difference(found, expected)}")
+
+
+def difference(found, expected):
+    """The first line that differs of two pairs of what was written and the status."""
+    lines = [[*text.splitlines(True), f"status {status}"] for text, status in (found, expected)]
+    pairs = enumerate(itertools.zip_longest(*lines), 1)
+    place, (line, wanted) = next((place, pair) for place, pair in pairs if pair[0] != pair[1])
+    return f"line {place} is {line!r} in place of {wanted!r}"
 
 
 class Server(threading.Thread):
@@ -142,7 +153,7 @@ def flood(number, count):
     """Empty datagrams, so many, and then the reply. A socket that is full drops some."""
     for _ in range(count):
         yield b""
-    time.sleep(0.2)
+    time.sleep(1)
     yield reply(number)
 
 
@@ -151,19 +162,19 @@ ADDRESS = b"address 10.0.0.9\n"
 UNANSWERED = b"unanswered a.example\n"
 ONCE = ["--wait=1", "--tries=1"]
 HOSTILE = {
-    "a reply": (lambda number, place: [reply(number)], [], ADDRESS, 0, 1),
-    "a name error": (lambda number, place: [reply(number, flags=0x8183)], [], b"no address\n", 0, 1),
+    "a reply": (lambda number, place: [reply(number)], PATIENT, ADDRESS, 0, 1),
+    "a name error": (lambda number, place: [reply(number, flags=0x8183)], PATIENT, b"no address\n", 0, 1),
     "silence": (lambda number, place: [], ["--wait=1", "--tries=3"], UNANSWERED, 5, 3),
-    "a late reply": (lambda number, place: [reply(number)][: place - 1], ["--wait=2", "--tries=2"], ADDRESS, 0, 2),
+    "a late reply": (lambda number, place: [reply(number)][: place - 1], ["--wait=20", "--tries=2"], ADDRESS, 0, 2),
     "empty": (lambda number, place: [b""], ONCE, UNANSWERED, 5, 1),
     "cut": (lambda number, place: [reply(number)[:end] for end in range(43)], ONCE, UNANSWERED, 5, 1),
     "another number": (lambda number, place: [reply(number ^ 1)], ONCE, UNANSWERED, 5, 1),
     "another name": (lambda number, place: [reply(number).replace(b"\x01a", b"\x01b")], ONCE, UNANSWERED, 5, 1),
     "too long": (lambda number, place: [reply(number) + bytes(512)], ONCE, UNANSWERED, 5, 1),
     "a server's failure": (lambda number, place: [reply(number, flags=0x8182)], ONCE, UNANSWERED, 5, 1),
-    "forged, then the reply": (lambda number, place: [reply(number ^ 1, 8), reply(number)], [], ADDRESS, 0, 1),
-    "doubled": (lambda number, place: [reply(number), reply(number, 8)], [], ADDRESS, 0, 1),
-    "a flood of 10,000": (lambda number, place: flood(number, 10_000), [], ADDRESS, 0, 1),
+    "forged, then the reply": (lambda number, place: [reply(number ^ 1, 8), reply(number)], PATIENT, ADDRESS, 0, 1),
+    "doubled": (lambda number, place: [reply(number), reply(number, 8)], PATIENT, ADDRESS, 0, 1),
+    "a flood of 10,000": (lambda number, place: flood(number, 10_000), PATIENT, ADDRESS, 0, 1),
 }
 
 

@@ -72,7 +72,8 @@ def main():
     scripts |= {f"{NESTING // 2} {name}": nested(NESTING // 2, *shape) for name, shape in TWICE.items()}
     for name, script in scripts.items():
         compare(failures, f"{name}, resolved", called("resolve", script, URL), direct)
-        compare(failures, f"{name}, checked", called("check", script)[1], 0)
+        _, status = called("check", script)
+        compare(failures, f"{name}, checked", ("", status), ("", 0))
     text, status = called("resolve", DEEP, URL)
     compare(failures, "2,000 open parts", (text.split(" at ")[0], status), (f"url 1 {URL}\nfault F2 TooDeep", 1))
     count = 2 * len(scripts) + 1
