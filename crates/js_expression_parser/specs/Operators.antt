@@ -82,9 +82,8 @@ module _ (end : Place) (d : Deeper) (form : Form) where
 
   -- the same, or it is at its end
   abbrev pub Goes : Result (ExpressionTree × List Token) Refusal → Next → List OpenRow → Type 0
-  Goes read (next.Operand o ts) rows = Continues read (next.Operand o ts) rows
-  Goes read (next.Value r) rows = Continues read (next.Value r) rows
   Goes read (next.Whole v ts) rows = read ≡ Ok (v, ts.now)
+  Goes read step rows = Continues read step rows
 
 -- ---- how much is still to be read at most; no slice is as long as limit
 

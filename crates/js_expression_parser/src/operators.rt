@@ -22,7 +22,9 @@ ghost use Rattle.js_expression_parser.specs.Operators.{
 use crate::nested::Nested;
 use crate::parser::Parser;
 use js_grammar::Form;
-use js_reading::{Read, chained, level_of, next_at_level, next_binary, place_at, rest_of};
+use js_reading::{
+    Read, add_part, chained, level_of, next_at_level, next_binary, place_at, rest_of,
+};
 use js_tree::{BinaryOp, Expression, Operand, OperandList, Place, ReadAnswer, Token};
 use std::alloc::Global;
 use utf16_text::Memory;
@@ -106,7 +108,7 @@ impl<N: Nested> Parser<N> {
         let mut rows = Vec::new(self.alloc);
         let mut reading = first;
         loop {
-            match self.next(form, reading, &mut rows)? {
+            match next_step(self.alloc, self.end, form, reading, &mut rows)? {
                 Next::Value(value) => reading = value,
                 Next::Operand(row, tokens) => {
                     let bound = level_of(row.op);
@@ -132,27 +134,28 @@ impl<N: Nested> Parser<N> {
             rest,
         })
     }
+}
 
-    /// Behind a value an operator opens a row; else it is the operand of the innermost row.
-    #[inline(never)]
-    fn next<'a>(
-        &self,
-        form: Form,
-        reading: Reading<'a>,
-        rows: &mut Vec<OpenRow>,
-    ) -> Result<Next<'a>, Memory>
-        ensures goes { (d : Deeper) → IfOk result (λ next. Goes self.now.end d form (within self.now.end d form rows.old.items (behind self.now.end d form reading.entry)) next rows.new.items) }
-        ensures costs { IfOk result (λ next. Costs (cost rows.old.items reading.entry) next rows.new.items) }
-    {
-        let next = next_between(form, reading.level, reading.bound, reading.rest);
-        if let Some(op) = next {
-            let rest = rest_of(reading.rest);
-            return Ok(Next::Operand(opened(self.alloc, self.end, reading, op), rest));
-        }
-        match rows.pop() {
-            None => Ok(Next::Whole(reading.value, reading.rest)),
-            Some(row) => operand_done(self.alloc, self.end, form, row, reading),
-        }
+/// Behind a value an operator opens a row; else it is the operand of the innermost row.
+#[inline(never)]
+fn next_step<'a>(
+    alloc: Global,
+    end: Place,
+    form: Form,
+    reading: Reading<'a>,
+    rows: &mut Vec<OpenRow>,
+) -> Result<Next<'a>, Memory>
+    ensures goes { (d : Deeper) → IfOk result (λ next. Goes end d form (within end d form rows.old.items (behind end d form reading.entry)) next rows.new.items) }
+    ensures costs { IfOk result (λ next. Costs (cost rows.old.items reading.entry) next rows.new.items) }
+{
+    let next = next_between(form, reading.level, reading.bound, reading.rest);
+    if let Some(op) = next {
+        let rest = rest_of(reading.rest);
+        return Ok(Next::Operand(opened(alloc, end, reading, op), rest));
+    }
+    match rows.pop() {
+        None => Ok(Next::Whole(reading.value, reading.rest)),
+        Some(row) => operand_done(alloc, end, form, row, reading),
     }
 }
 
@@ -193,13 +196,14 @@ fn operand_done<'a>(
     ensures costs { IfOk result (λ next. Costs (row_cost row) next []) }
 {
     let next = next_in(form, &row, reading.rest);
-    let mut operands = row.operands;
     let operand = Operand {
         place: row.op_place,
         op: row.op,
         value: reading.value,
     };
-    operands.push(alloc, operand)?;
+    let mut operands = row.operands.into_vec();
+    add_part(&mut operands, operand)?;
+    let operands = OperandList::from_vec(operands);
     if let Some(op) = next {
         let row = OpenRow {
             operands,

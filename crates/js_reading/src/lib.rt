@@ -25,4 +25,4 @@ pub use reading::{
     Read, alone, broken, continued, expect, expect_while, next_name, place_at, read_name,
     read_parameters, read_semicolon, read_word, refused,
 };
-pub use turns::{row, row_behind};
+pub use turns::{add_part, row, row_behind};

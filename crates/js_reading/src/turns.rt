@@ -36,7 +36,7 @@ pub fn row_behind<'a, T: Drop, F: Fn(&'a [Token]) -> Read<'a, Turn<T>>>(
     ensures { (reader : Reader (Turn T)) → ((before : _) (given : _) → F.post turn before given → Reads (reader before.now) given) → reader tokens.now ≡ Ok (More first, rest.now) → Reads (row reader tokens.now) result }
 {
     let mut all = Vec::new(alloc);
-    add(&mut all, first)?;
+    add_part(&mut all, first)?;
     parts_behind(all, rest, tokens.len(), turn)
 }
 
@@ -56,11 +56,11 @@ fn parts_behind<'a, T: Drop, F: Fn(&'a [Token]) -> Read<'a, Turn<T>>>(
         let (one, after) = turn(rest)?;
         match one {
             Turn::More(x) => {
-                add(&mut all, x)?;
+                add_part(&mut all, x)?;
                 rest = after;
             }
             Turn::Last(x) => {
-                add(&mut all, x)?;
+                add_part(&mut all, x)?;
                 return Ok((List::from_vec(all), after));
             }
             Turn::End => return Ok((List::from_vec(all), after)),
@@ -70,7 +70,7 @@ fn parts_behind<'a, T: Drop, F: Fn(&'a [Token]) -> Read<'a, Turn<T>>>(
 }
 
 /// Puts a part at the end of a row. Most rows have one part or two, so the room doubles from one on.
-fn add<T: Drop>(parts: &mut Vec<T>, part: T) -> Result<(), Memory>
+pub fn add_part<T: Drop>(parts: &mut Vec<T>, part: T) -> Result<(), Memory>
     ensures { OnOk result (parts.new.items ≡ parts.old.items ++ part ∷ []) }
 {
     if parts.len() == parts.capacity() {

@@ -7,7 +7,7 @@ use Rattle.js_expression_parser.proofs.operators.operand_done.Goals as goal
 
 pub returns-in-Some-clause-goes : goal.returns-in-Some-clause-goes
 returns-in-Some-clause-goes c d =
-    rw (c.in_ok-push.ensures.ok, c.place_at.ensures, c.rest_of.ensures, c.saturating_sub.ensures)
+    rw (c.from_vec-operands.ensures, c.in_ok-add_part.ensures, c.into_vec-operands.ensures, c.place_at.ensures, c.rest_of.ensures, c.saturating_sub.ensures)
     (rows.goes_on c.args.end d c.args.form c.args.row c.args.reading.value c.args.reading.rest.now c.in-Some.op (sym c.next_in-next.ensures ∙ c.in-Some.is))
 
 pub returns-in-Some-clause-costs : goal.returns-in-Some-clause-costs
@@ -21,4 +21,4 @@ returns-in-Some-clause-costs c =
 pub returns-clause-goes : goal.returns-clause-goes
 returns-clause-goes c d =
     let level : c.level_of.result + 1 ≡ suc (level_of c.args.row.op) = omega (arith, c.level_of.ensures) in
-    rw (level, c.in_ok-chained.ensures, c.in_ok-push.ensures.ok) (rows.ends c.args.end d c.args.form c.args.row c.args.reading.value c.args.reading.rest.now (sym c.next_in-next.ensures ∙ c.in_default.is))
+    rw (level, c.in_ok-chained.ensures, c.from_vec-operands.ensures, c.in_ok-add_part.ensures, c.into_vec-operands.ensures) (rows.ends c.args.end d c.args.form c.args.row c.args.reading.value c.args.reading.rest.now (sym c.next_in-next.ensures ∙ c.in_default.is))

@@ -8,7 +8,7 @@ loop-turn-init g c reader reads = begins reader _ _ _ _ (omega arith)
 
 pub loop-turn-preserved : goal.loop-turn-preserved
 loop-turn-preserved g c reader reads =
-    rw c.in_ok-add-in-More.ensures
+    rw c.in_ok-add_part-in-More.ensures
     (goes_on reader _ _ _ _ (c.loop-turn.invariant reader reads) _ (omega (arith, c.loop-turn-test.true)) c.in_ok-one.one _ c.in-More.x c.in-More.is (reads _ _ c.in_ok-one.ensures))
 
 pub returns-in_err-one : goal.returns-in_err-one
@@ -18,7 +18,7 @@ returns-in_err-one g c reader reads =
 
 pub returns-in-Last : goal.returns-in-Last
 returns-in-Last g c reader reads =
-    rw (c.from_vec.ensures, c.in_ok-add-in-Last.ensures)
+    rw (c.from_vec.ensures, c.in_ok-add_part-in-Last.ensures)
     (is_last reader _ _ _ _ (c.loop-turn.invariant reader reads) (c.args.turns - (c.loop-turn._turn + 1)) (omega (arith, c.loop-turn-test.true)) c.in_ok-one.one _ c.in-Last.x c.in-Last.is (reads _ _ c.in_ok-one.ensures))
 
 pub returns-in-End : goal.returns-in-End
