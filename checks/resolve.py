@@ -232,7 +232,9 @@ def silent_of_a(asked):
 
 
 def noise(asked):
-    """Fifty datagrams of any kind. A socket takes as many for two names, however slowly it is read."""
+    """Fifty datagrams of any kind. For two names that is less than a socket has room for, even where nobody reads it
+    meanwhile, so it keeps the replies that come behind them.
+    """
     return [(0, NOISE.randbytes(NOISE.randrange(513))) for _ in range(50)]
 
 

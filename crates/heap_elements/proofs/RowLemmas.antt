@@ -3,7 +3,7 @@ use Rattle.std.proofs.Common.{◌≡◌, ℕ, ◌≤◌, zero, suc, List, [], �
 use Rattle.std.specs.Str.{bytes_eq}
 use Rattle.std.proofs.lemmas.Bool.{cases_Bool}
 use Rattle.std.proofs.lemmas.Slice.Eq.{bytes_eq-Decides}
-use Rattle.utf16_text.specs.Comparing.{texts_equal}
+use Rattle.utf16_text.specs.Comparing.{numbers_equal}
 use Rattle.heap_values.specs.declared.property.Property.{Property}
 use Rattle.heap_elements.specs.Properties.{property_at, with_property, without_property}
 use Rattle.heap_elements.specs.Places.{StandsAt, IsMissing, NamesDiffer}
@@ -83,7 +83,7 @@ NamesDiffer-with (e ∷ es) n p h = ⊎_elim
     (λ here. subst NamesDiffer (sym (ap (λ b. cond b ((e.0, p) ∷ es) (e ∷ with_property es n p)) here)) (h.0, h.1))
     (λ there.
     subst NamesDiffer (sym (ap (λ b. cond b ((e.0, p) ∷ es) (e ∷ with_property es n p)) there))
-    (property_at-with es n e.0 p (texts_equal.symm e.0 n ∙ there) ∙ h.0, NamesDiffer-with es n p h.1))
+    (property_at-with es n e.0 p (numbers_equal.symm e.0 n ∙ there) ∙ h.0, NamesDiffer-with es n p h.1))
     (cases_Bool (bytes_eq n e.0))
 
 -- a name that is missing stays so when another is taken away
@@ -136,7 +136,7 @@ missing_before : (es : List (List ℕ × Property)) (i : ℕ) (e : List ℕ × P
 missing_before [] i e h is = absurd (cc)
 missing_before (x ∷ xs) zero e h is = refl
 missing_before (x ∷ xs) (suc i) e h is =
-    ap (λ b. cond b (Some (x.1)) (property_at (take i xs) e.0)) (texts_equal.symm e.0 x.0 ∙ apart_from_missing xs x.0 i e h.0 is)
+    ap (λ b. cond b (Some (x.1)) (property_at (take i xs) e.0)) (numbers_equal.symm e.0 x.0 ∙ apart_from_missing xs x.0 i e h.0 is)
     ∙ missing_before xs i e h.1 is
 
 -- the next entry of a row goes behind those before it

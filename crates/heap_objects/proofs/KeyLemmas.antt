@@ -7,7 +7,7 @@ use Rattle.std.specs.Str.{bytes_eq}
 use Rattle.std.proofs.lemmas.Bool.{cases_Bool}
 use Rattle.std.proofs.lemmas.List.Folds.{list_any-append}
 use Rattle.std.proofs.lemmas.Map.Text.{is_eq-slice_cmp}
-use Rattle.utf16_text.specs.Comparing.{texts_equal}
+use Rattle.utf16_text.specs.Comparing.{numbers_equal}
 use Rattle.heap_objects.specs.Keys.{HasSeen, IsMarked}
 
 pub marked_from : (before : List ℕ → Bool) (name : List ℕ) (mark : Bool) (after : List ℕ → Bool) → ((n : List ℕ) → after n ≡ cond (is_eq (slice_cmp nat_cmp name n)) mark (before n)) → IsMarked before name mark after
@@ -25,9 +25,9 @@ HasSeen-more before after names name seen marked n =
     ∙ ⊎_elim
     (λ same.
     ap (λ b. cond b true (before n)) same
-    ∙ sym (ap (λ b. list_any (bytes_eq n) names || (b || false)) (texts_equal.symm n name ∙ same) ∙ or_true (list_any (bytes_eq n) names)))
+    ∙ sym (ap (λ b. list_any (bytes_eq n) names || (b || false)) (numbers_equal.symm n name ∙ same) ∙ or_true (list_any (bytes_eq n) names)))
     (λ apart.
     ap (λ b. cond b true (before n)) apart ∙ seen n
-    ∙ sym (ap (λ b. list_any (bytes_eq n) names || (b || false)) (texts_equal.symm n name ∙ apart) ∙ or_false (list_any (bytes_eq n) names)))
+    ∙ sym (ap (λ b. list_any (bytes_eq n) names || (b || false)) (numbers_equal.symm n name ∙ apart) ∙ or_false (list_any (bytes_eq n) names)))
     (cases_Bool (bytes_eq name n))
     ∙ sym (list_any-append (bytes_eq n) names (name ∷ []))

@@ -4,7 +4,7 @@ use Rattle.std.specs.Prelude.{Result, Ok, Err, OnOk, OnErr}
 use Rattle.std.specs.Str.{bytes_eq}
 use Rattle.std.proofs.lemmas.Bool.{cases_Bool}
 use Rattle.std.proofs.lemmas.List.{append-nil}
-use Rattle.utf16_text.specs.Comparing.{texts_equal}
+use Rattle.utf16_text.specs.Comparing.{numbers_equal}
 use Rattle.heap_values.specs.declared.property.Property.{Property}
 use Rattle.heap_elements.specs.Properties.{property_at, with_property, with_properties, without_property}
 use Rattle.heap_elements.specs.Places.{NamesDiffer}
@@ -59,7 +59,7 @@ with_property-second (e ∷ xs) ys n p none =
 missing_before_it : (ps : Entries) (e : List ℕ × Property) (es : Entries) → NamesDiffer (ps ++ e ∷ es) → property_at ps e.0 ≡ None
 missing_before_it [] e es h = refl
 missing_before_it (x ∷ ps) e es h =
-    ap (λ b. cond b (Some (x.1)) (property_at ps e.0)) (texts_equal.symm e.0 x.0 ∙ differs_from_first e es x.0 (missing_in_second ps (e ∷ es) x.0 h.0))
+    ap (λ b. cond b (Some (x.1)) (property_at ps e.0)) (numbers_equal.symm e.0 x.0 ∙ differs_from_first e es x.0 (missing_in_second ps (e ∷ es) x.0 h.0))
     ∙ missing_before_it ps e es h.1
 
 -- where names differ, each property goes to the end

@@ -7,7 +7,7 @@ use Rattle.std.specs.Str.{bytes_eq}
 use Rattle.std.proofs.lemmas.Slice.Eq.{bytes_eq-Decides}
 use Rattle.std.proofs.lemmas.Bool.{cases_Bool}
 use Rattle.std.proofs.lemmas.Map.Text.{is_eq-slice_cmp}
-use Rattle.utf16_text.specs.Comparing.{texts_equal}
+use Rattle.utf16_text.specs.Comparing.{numbers_equal}
 use Rattle.heap_values.specs.declared.property.Property.{Property}
 use Rattle.heap_elements.specs.Properties.{property_at, with_property, without_property}
 use Rattle.heap_elements.specs.Places.{NamesDiffer}
@@ -164,7 +164,7 @@ taken_away (Some e ∷ ss) m j h is = ⊎_elim
           ap next (no_place ss n (ap (property_at (standing ss)) (sym (same_name m n this) ∙ name) ∙ h.0))
           ∙ sym (ap (λ b. cond b None (place_in (Some e ∷ ss) n)) this))
           (λ other.
-          sym (ap (λ b. cond b (Some 0) (next (place_in ss n))) (ap (bytes_eq n) (sym name) ∙ texts_equal.symm n m ∙ other))
+          sym (ap (λ b. cond b (Some 0) (next (place_in ss n))) (ap (bytes_eq n) (sym name) ∙ numbers_equal.symm n m ∙ other))
           ∙ sym (ap (λ b. cond b None (place_in (Some e ∷ ss) n)) other))
           (cases_Bool (bytes_eq m n));
     })
@@ -207,7 +207,7 @@ apart_from_first e ss m none = ⊎_elim
     (cases_Bool (bytes_eq m e.0))
 
 place_in-append : (ss : Slots) (m : List ℕ) (p : Property) (n : List ℕ) → place_in ss m ≡ None → place_in (ss ++ Some (m, p) ∷ []) n ≡ cond (bytes_eq m n) (Some (length ss)) (place_in ss n)
-place_in-append [] m p n none = ap (λ b. cond b (Some 0) None) (texts_equal.symm n m)
+place_in-append [] m p n none = ap (λ b. cond b (Some 0) None) (numbers_equal.symm n m)
 place_in-append (None ∷ ss) m p n none =
     ap next (place_in-append ss m p n (none_behind (place_in ss m) none))
     ∙ next_if (bytes_eq m n) (length ss) (place_in ss n)

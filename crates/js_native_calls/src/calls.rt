@@ -10,7 +10,6 @@ use js_evaluation::Native;
 use js_machine::{Machine, Now, Step};
 use js_native_table::{is_method, native_of, taken_by};
 use js_tree::Place;
-use std::alloc::Global;
 use utf16_text::{List, Memory};
 
 /// What the call of the native of a number does. A number that no native has gives undefined; no rule calls it.
@@ -39,35 +38,28 @@ fn native_value<'p>(
 ) -> Step<'p>
     ensures { Moves (at machine.old spec.native_value native this arguments place) machine.old result machine.new }
 {
-    let handed = handed_to(machine.alloc, native, this, arguments)?;
+    let handed = handed_to(native, this, arguments)?;
     let left = taken_by(native, handed.len());
     let done = List::new(machine.alloc);
     values_converted(machine, native, left, done, handed, place)
 }
 
 /// The values that are handed to a native: the receiver of a method stands ahead of the arguments.
-fn handed_to(
-    alloc: Global,
-    native: Native,
-    this: Value,
-    arguments: List<Value>,
-) -> Result<List<Value>, Memory>
+fn handed_to(native: Native, this: Value, arguments: List<Value>) -> Result<List<Value>, Memory>
     ensures { IfOk result (λ handed. handed ≡ table.handed_to native this arguments) }
 {
     if is_method(native) {
-        ahead_of(alloc, this, arguments)
+        ahead_of(this, arguments)
     } else {
         Ok(arguments)
     }
 }
 
 /// A value ahead of others, which are moved.
-fn ahead_of(alloc: Global, first: Value, others: List<Value>) -> Result<List<Value>, Memory>
+fn ahead_of(first: Value, others: List<Value>) -> Result<List<Value>, Memory>
     ensures { IfOk result (λ all. all ≡ first ∷ others) }
 {
-    let mut all = Vec::new(alloc);
-    let mut behind = others.into_vec();
-    all.push(first)?;
-    all.append(&mut behind)?;
+    let mut all = others.into_vec();
+    all.insert(0, first)?;
     Ok(List::from_vec(all))
 }

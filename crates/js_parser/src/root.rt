@@ -5,10 +5,10 @@ ghost use Rattle.js_parser.specs.Nested.{expression_part, statement_part};
 
 use crate::nested::{ExpressionPart, StatementPart};
 use crate::reader::PartReader;
-use crate::statements::{block, statement};
 use js_expression_parser::Parser;
 use js_grammar::LeftSide;
 use js_reading::{Read, refused};
+use js_statement_parser::{block, statement};
 use js_tree::{Expression, Place, ReadKind, Statement, Token};
 use std::alloc::Global;
 

@@ -4,7 +4,7 @@ use Rattle.std.specs.Prelude.{nat_le}
 use Rattle.std.specs.List.{IsDistinct}
 use Rattle.std.proofs.lemmas.Bool.{leb-false}
 use Rattle.std.proofs.lemmas.Map.Keys.{IsDistinct-push}
-use Rattle.pac_names.specs.Comparing.{names_equal}
+use Rattle.utf16_text.specs.Comparing.{numbers_equal}
 use Rattle.js_host.specs.Answers.{Name, AnswerMap}
 use Rattle.js_host.specs.Seen.{most_names, was_asked}
 use Rattle.run_trees.specs.RunTree.{RunTree, Done, Ask, Tell}
@@ -20,7 +20,7 @@ few_by asked name few false m true w = few
 few_by asked name few false m false w =
     let room : length asked < most_names = leb-false most_names (length asked) m in
     record {
-      distinct = IsDistinct-push names_equal asked name few.distinct w;
+      distinct = IsDistinct-push numbers_equal asked name few.distinct w;
       few = rw (length-append asked (name ∷ [])) (omega arith);
     }
 

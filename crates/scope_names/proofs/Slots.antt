@@ -8,7 +8,7 @@ use Rattle.std.specs.Str.{bytes_eq}
 use Rattle.std.proofs.lemmas.Bool.{cases_Bool}
 use Rattle.std.proofs.lemmas.Map.Text.{is_eq-slice_cmp}
 use Rattle.std.proofs.lemmas.Slice.Eq.{bytes_eq-Decides}
-use Rattle.utf16_text.specs.Comparing.{texts_equal}
+use Rattle.utf16_text.specs.Comparing.{numbers_equal}
 use Rattle.js_binding.specs.Names.{with_name}
 use Rattle.js_binding.specs.Scopes.{place_of}
 use Rattle.scope_names.specs.Index.{IsIndex, IsPut}
@@ -72,7 +72,7 @@ index_more before after names name index none put x =
     by_place : (o : Option ℕ) → place_of x names ≡ o → cond (bytes_eq name x) (Some (length names)) (before x) ≡ place_of x (names ++ name ∷ [])
     by_place None e =
         ap (λ p. cond (bytes_eq name x) (Some (length names)) p) (index x ∙ e)
-        ∙ ap (λ b. cond b (Some (length names)) None) (texts_equal.symm name x)
+        ∙ ap (λ b. cond b (Some (length names)) None) (numbers_equal.symm name x)
         ∙ sym (new_place x name names e)
     by_place (Some n) e =
         ap (λ b. cond b (Some (length names)) (before x)) (at_old n e) ∙ index x ∙ e ∙ sym (old_place x name names n e)

@@ -6,7 +6,7 @@ use Rattle.std.specs.Cmp.Lexicographic.{slice_cmp}
 use Rattle.std.specs.List.{list_any}
 use mathlib.Core.Path.{fun_ext}
 use Rattle.pac_names.specs.declared.answer.Answer.{Answer}
-use Rattle.pac_names.specs.Comparing.{names_tie, names_total}
+use Rattle.utf16_text.specs.Comparing.{numbers_tie, numbers_total}
 use Rattle.js_host.specs.Answers.{Name, AnswerMap}
 use Rattle.poll_log.specs.declared.flight.Flight.{Flight}
 use Rattle.poll_log.specs.declared.question.Question.{Question}
@@ -97,21 +97,21 @@ keeps table name n answer x e = go (map.get table name) refl
       where
         off : (b : Bool) → same_name n name ≡ b → eq_by_cmp (slice_cmp nat_cmp) n name ≡ false
         off true same = none_some x (sym u ∙ ap (map.get table) (sym (same_is _ _ same)) ∙ e)
-        off false d = sym (names_tie n name) ∙ d
+        off false d = sym (numbers_tie n name) ∙ d
 
     go : (r : Option Answer) → map.get table name ≡ r → map.get (cond (is_some r) table (map.insert table name answer)) n ≡ Some x
     go (Some y) u = e
     go None u =
-        map.get-insert names_total table name answer n
+        map.get-insert numbers_total table name answer n
         ∙ ap (λ b. cond b (Some answer) (map.get table n)) (apart u)
         ∙ e
 
 puts : (table : AnswerMap) (name n : Name) (answer : Answer) → map.get table name ≡ None → map.get table n ≡ None → map.get (with_answer name answer table) n ≡ cond (same_name n name) (Some answer) None
 puts table name n answer u v =
     ap (λ r. map.get (cond (is_some r) table (map.insert table name answer)) n) u
-    ∙ map.get-insert names_total table name answer n
+    ∙ map.get-insert numbers_total table name answer n
     ∙ ap (λ r. cond (eq_by_cmp (slice_cmp nat_cmp) n name) (Some answer) r) v
-    ∙ ap (λ b. cond b (Some answer) None) (sym (names_tie n name))
+    ∙ ap (λ b. cond b (Some answer) None) (sym (numbers_tie n name))
 
 -- ---- what is found, if anything
 

@@ -9,7 +9,7 @@ use Rattle.std.proofs.lemmas.List.Elements.{All-cons, All-head, All-nil, All-tai
 use Rattle.std.proofs.lemmas.Cmp.{eq_by_cmp_equiv}
 use Rattle.pac_names.specs.declared.answer.Answer.{Answer}
 use Rattle.pac_names.specs.declared.answer.Answer.TheVariants.{NoAddress}
-use Rattle.pac_names.specs.Comparing.{names_tie, names_total}
+use Rattle.utf16_text.specs.Comparing.{numbers_tie, numbers_total}
 use Rattle.js_host.specs.Answers.{Name, AnswerMap, answer_in}
 use Rattle.run_trees.specs.RunTree.{RunTree}
 use Rattle.run_trees.specs.WholeRun.{asked_names, whole_run}
@@ -45,7 +45,7 @@ answers_to told [] = map.empty
 answers_to told (q ∷ qs) = with_answer q.name (told q.name) (answers_to told qs)
 
 flipped : (n m : Name) → eq_by_cmp (slice_cmp nat_cmp) n m ≡ same_name m n
-flipped n m = (eq_by_cmp_equiv names_total).symm n m ∙ sym (names_tie m n)
+flipped n m = (eq_by_cmp_equiv numbers_total).symm n m ∙ sym (numbers_tie m n)
 
 answers_to-get : (told : Map) (qs : List Question) (n : Name) → map.get (answers_to told qs) n ≡ cond (has_name n qs) (told n) None
 answers_to-get told [] n = map.get-empty (slice_cmp nat_cmp) n
@@ -61,11 +61,11 @@ answers_to-get told (q ∷ qs) n = go (told q.name) refl (same_name q.name n) re
         ih ∙ none (has_name n qs) here ∙ sym here
     go None e false apart ih = ih
     go (Some x) e true same ih =
-        map.get-insert names_total (answers_to told qs) q.name x n
+        map.get-insert numbers_total (answers_to told qs) q.name x n
         ∙ ap (λ b. cond b (Some x) (map.get (answers_to told qs) n)) (flipped n q.name ∙ same)
         ∙ sym e ∙ ap told (same_is q.name n same)
     go (Some x) e false apart ih =
-        map.get-insert names_total (answers_to told qs) q.name x n
+        map.get-insert numbers_total (answers_to told qs) q.name x n
         ∙ ap (λ b. cond b (Some x) (map.get (answers_to told qs) n)) (flipped n q.name ∙ apart)
         ∙ ih
 
