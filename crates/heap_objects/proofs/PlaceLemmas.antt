@@ -1,11 +1,12 @@
 -- What stands at the places that an index of a row gives, and how the row changes there.
 use Rattle.std.proofs.Common.{◌≡◌, ℕ, ◌+◌, ◌<◌, ◌≤◌, zero, suc, List, [], ◌∷◌, ◌++◌, Bool, true, false, cond, Option, Some, None, slice_get, length, set, take, filter, refl, sym, ap, subst, ◌∙◌, add-one, length-set, length-append, arith, ⊎_elim}
-use Rattle.std.specs.Option.{option_map, is_some}
+use Rattle.std.specs.Option.{option_map, is_some, unwrap_or}
 use Rattle.std.specs.Ordering.{nat_cmp, is_eq}
 use Rattle.std.specs.Cmp.Lexicographic.{slice_cmp}
 use Rattle.std.specs.Str.{bytes_eq}
 use Rattle.std.proofs.lemmas.Slice.Eq.{bytes_eq-Decides}
 use Rattle.std.proofs.lemmas.Bool.{cases_Bool}
+use Rattle.std.proofs.lemmas.Option.{slice_get_cases}
 use Rattle.std.proofs.lemmas.Map.Text.{is_eq-slice_cmp}
 use Rattle.utf16_text.specs.Comparing.{numbers_equal}
 use Rattle.heap_values.specs.declared.property.Property.{Property}
@@ -322,6 +323,49 @@ place_in-closed ss m =
     ∙ ap (λ es. is_some (property_at es m)) (sym (standing-closed ss))
     ∙ sym (place_in-some (filter is_some ss) m)
 
+pub none_unless : {X : Type 0} (o : Option X) → ((x : X) → o ≡ Some x → ⊥) → o ≡ None
+none_unless None never = refl
+none_unless (Some x) never = absurd (never x refl)
+
+-- a name's place is one of the row
+pub place_below : (ss : Slots) (m : List ℕ) (j : ℕ) → place_in ss m ≡ Some j → j < length ss
+place_below ss m j is = ⊎_elim
+    (λ within. within.1)
+    (λ past. absurd (let nothing_there = sym (found_at ss m j is).stands ∙ past.1 in cc))
+    (slice_get_cases ss j).1
+
+-- where a name has its own place or else the next one, a place before the next is its own
+pub own_place : (o : Option ℕ) (next place : ℕ) → place ≡ unwrap_or o next → place < next → o ≡ Some place
+own_place None next place is below = absurd (omega (arith, is, below))
+own_place (Some i) next place is below = ap Some (sym is)
+
+-- and any other is the next, which no name has
+pub no_own_place : (f : List ℕ → Option ℕ) (ss : Slots) (m : List ℕ) (place : ℕ) → IsIndexOf f ss → place ≡ unwrap_or (f m) (length ss) → length ss ≤ place → f m ≡ None
+no_own_place f ss m place h is past = none_unless (f m) (λ i found.
+    let own = is ∙ ap (λ o. unwrap_or o (length ss)) found in
+    let below = place_below ss m i (sym (h.places m) ∙ found) in
+    omega (arith, own, below, past))
+
+-- a name that gets what it has, or that goes again, leaves the places as they are
+pub kept : (f : List ℕ → Option ℕ) (m : List ℕ) (w : Option ℕ) (g : List ℕ → Option ℕ) → f m ≡ w → Updated f m w g → (n : List ℕ) → g n ≡ f n
+kept f m w g is updated n = updated n ∙ ⊎_elim
+    (λ same. ap (λ b. cond b w (f n)) same ∙ sym is ∙ ap f (same_name m n same))
+    (λ apart. ap (λ b. cond b w (f n)) apart)
+    (cases_Bool (bytes_eq m n))
+
+pub withdrawn : (f : List ℕ → Option ℕ) (m : List ℕ) (w : Option ℕ) (g k : List ℕ → Option ℕ) → f m ≡ None → Updated f m w g → Updated g m None k → (n : List ℕ) → k n ≡ f n
+withdrawn f m w g k none updated gone n = gone n ∙ ⊎_elim
+    (λ same. ap (λ b. cond b None (g n)) same ∙ sym none ∙ ap f (same_name m n same))
+    (λ apart. ap (λ b. cond b None (g n)) apart ∙ updated n ∙ ap (λ b. cond b w (f n)) apart)
+    (cases_Bool (bytes_eq m n))
+
+pub index-same : (f : List ℕ → Option ℕ) (ss : Slots) (g : List ℕ → Option ℕ) → IsIndexOf f ss → ((n : List ℕ) → g n ≡ f n) → IsIndexOf g ss
+index-same f ss g h same = record {
+  places = λ n. same n ∙ h.places n;
+  differ = h.differ;
+  few = h.few;
+}
+
 -- the index after a property was written, added or taken away
 pub index-written : (f : List ℕ → Option ℕ) (ss : Slots) (m : List ℕ) (j : ℕ) (p : Property) → IsIndexOf f ss → f m ≡ Some j → IsIndexOf f (set ss j (Some (m, p)))
 index-written f ss m j p h found =
@@ -349,7 +393,3 @@ index-taken_away f ss m j g h found updated =
       differ = subst NamesDiffer (sym gone.listed) (NamesDiffer-without (standing ss) m h.differ);
       few = subst (λ l. l ≤ 4294967296) (sym (length-set ss j None)) h.few;
     }
-
-pub none_unless : {X : Type 0} (o : Option X) → ((x : X) → o ≡ Some x → ⊥) → o ≡ None
-none_unless None never = refl
-none_unless (Some x) never = absurd (never x refl)

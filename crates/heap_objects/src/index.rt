@@ -1,5 +1,6 @@
 // The index of an object's names: the place of each in a row of slots.
-ghost use Rattle.std.specs.Prelude.{◌≡◌, ◌≤◌, ℕ, List, Some, None, length, is_some, OnOk, OnErr};
+ghost use Rattle.std.specs.Prelude.{◌≡◌, ◌≤◌, ℕ, List, Some, None, length, is_some, IfOk, OnErr};
+ghost use Rattle.std.specs.Option.{unwrap_or};
 ghost use Rattle.std.specs.Ordering.{nat_cmp};
 ghost use Rattle.std.specs.BTreeMap.{get};
 ghost use Rattle.std.specs.Cmp.Lexicographic.{slice_cmp};
@@ -10,22 +11,26 @@ use crate::slots::Slot;
 use std::collections::BTreeMap;
 use utf16_text::{Memory, Text};
 
-pub(crate) fn put_place(
+/// The place of a name. One that is new to the index gets the place `next`.
+pub(crate) fn place_or(
     places: &mut BTreeMap<Text, u32>,
     name: Text,
-    place: u32,
-) -> Result<(), Memory>
-    ensures ok { OnOk result (Updated (get (slice_cmp nat_cmp) places.old) name (Some place) (get (slice_cmp nat_cmp) places.new)) }
+    next: u32,
+) -> Result<u32, Memory>
+    ensures place { IfOk result (λ place. place ≡ unwrap_or (get (slice_cmp nat_cmp) places.old name) next) }
+    ensures after { IfOk result (λ place. Updated (get (slice_cmp nat_cmp) places.old) name (Some place) (get (slice_cmp nat_cmp) places.new)) }
     ensures unchanged { OnErr result (places.new.entries ≡ places.old.entries) }
 {
-    places.insert(name, place)?;
-    Ok(())
+    let place = places.entry(name)?.or_insert(next);
+    Ok(*place)
 }
 
-pub(crate) fn remove_place(places: &mut BTreeMap<Text, u32>, name: &Text)
-    ensures { Updated (get (slice_cmp nat_cmp) places.old) name.now None (get (slice_cmp nat_cmp) places.new) }
+/// Takes a name out of the index. The answer is the place that it had.
+pub(crate) fn remove_place(places: &mut BTreeMap<Text, u32>, name: &Text) -> Option<u32>
+    ensures place { result ≡ get (slice_cmp nat_cmp) places.old name.now }
+    ensures after { Updated (get (slice_cmp nat_cmp) places.old) name.now None (get (slice_cmp nat_cmp) places.new) }
 {
-    let _place = places.remove(name);
+    places.remove(name)
 }
 
 /// Gives a name that is in the index another place.

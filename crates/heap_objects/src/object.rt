@@ -169,12 +169,13 @@ impl Object {
         }
     }
 
-    /// The cells that a write under `name` takes.
-    pub fn put_cost(&self, name: &Text) -> u64
+    /// The cells that a write under `name` takes, where `old` are the marks of the property that it finds.
+    pub fn put_cost(&self, name: &Text, old: Option<Marks>) -> u64
+        requires { old ≡ own_marks self.now name.now }
         ensures { result ≡ put_cost_of self.now name.now }
     {
         let steps = u64::from(self.grown_length(name)) - u64::from(self.length);
-        match self.properties.marks(name) {
+        match old {
             None => steps + 1,
             Some(_) => steps,
         }
@@ -195,14 +196,21 @@ impl Object {
         None
     }
 
-    /// Writes a value under a name that is not the length of an array. A new property is listed and can be deleted.
-    pub fn put(&mut self, alloc: Global, name: &Text, value: Value) -> Result<(), Memory>
-        requires { is_length self.old.kind name.now ≡ false }
+    /// Writes a value under a name that is not the length of an array, where `old` are the marks of the property that
+    /// it finds. A new property is listed and can be deleted.
+    pub fn put(
+        &mut self,
+        alloc: Global,
+        name: &Text,
+        old: Option<Marks>,
+        value: Value,
+    ) -> Result<(), Memory>
+        requires no_length { is_length self.old.kind name.now ≡ false }
+        requires old { old ≡ own_marks self.old name.now }
         ensures ok { OnOk result (self.new ≡ object_after self.old name.now value) }
         ensures unchanged { OnErr result (self.new ≡ self.old) }
     {
-        let property = written(self.properties.marks(name), value);
-        self.define(alloc, name, property)
+        self.define(alloc, name, written(old, value))
     }
 
     /// Writes a value under an index. A new property is listed and can be deleted. No name is made for an element.

@@ -9,7 +9,7 @@ ghost use Rattle.heap_elements.specs.Properties.{
   listed_names_of,
 };
 
-use crate::index::{move_places, put_place, remove_place};
+use crate::index::{move_places, place_or, remove_place};
 use crate::properties::Properties;
 use crate::slots::{
     Slot, append_slot, copy_slots, drop_gaps, list_slots, next_place, property_at_place, write_slot,
@@ -76,15 +76,15 @@ impl Ordered {
         ensures ok { OnOk result (self.new ≡ with_property self.old name.now property) }
         ensures unchanged { OnErr result (self.new ≡ self.old) }
     {
+        let Some(next) = next_place(&self.row) else {
+            return Err(Memory);
+        };
         let held = name.copy(alloc)?;
-        if let Some(place) = self.places.get(name).copied() {
+        let place = place_or(&mut self.places, name.copy(alloc)?, next)?;
+        if place < next {
             write_slot(&mut self.row, place, Some((held, property)));
             return Ok(());
         }
-        let Some(place) = next_place(&self.row) else {
-            return Err(Memory);
-        };
-        put_place(&mut self.places, name.copy(alloc)?, place)?;
         match append_slot(&mut self.row, held, property) {
             Ok(()) => Ok(()),
             Err(memory) => {
@@ -98,15 +98,12 @@ impl Ordered {
     pub(crate) fn remove(&mut self, name: &Text)
         ensures { self.new ≡ without_property self.old name.now }
     {
-        match self.places.get(name).copied() {
-            None => {}
-            Some(place) => {
-                remove_place(&mut self.places, name);
-                write_slot(&mut self.row, place, None);
-                if self.places.len() < self.row.len() / 2 {
-                    self.close_gaps();
-                }
-            }
+        let Some(place) = remove_place(&mut self.places, name) else {
+            return;
+        };
+        write_slot(&mut self.row, place, None);
+        if self.places.len() < self.row.len() / 2 {
+            self.close_gaps();
         }
     }
 

@@ -18,7 +18,7 @@ ghost use Rattle.std.specs.Prelude.{
   true,
 };
 ghost use Rattle.std.specs.Fmt.{decimal};
-ghost use Rattle.heap_objects.specs.Object.{property_after, value_property};
+ghost use Rattle.heap_objects.specs.Object.{own_marks, property_after, value_property};
 ghost use Rattle.object_heap.specs.Fresh.{fresh_heap, built_in_number};
 ghost use Rattle.object_heap.specs.Heap.{
   object_at,
@@ -296,9 +296,10 @@ impl Heap {
         if self.objects[at].is_length(name) {
             return self.put_length(alloc, at, value);
         }
-        let cost = write_cost(self.cells, &self.objects[at], name)?;
+        let old = self.objects[at].own_marks(name);
+        let cost = write_cost(self.cells, &self.objects[at], name, old)?;
         let holder = &mut self.objects[at];
-        holder.put(alloc, name, value)?;
+        holder.put(alloc, name, old, value)?;
         self.cells += cost;
         Ok(())
     }
@@ -352,7 +353,8 @@ impl Heap {
         if self.objects[at].is_length(name) {
             return self.put_length(alloc, at, value);
         }
-        let cost = write_cost(self.cells, &self.objects[at], name)?;
+        let old = self.objects[at].own_marks(name);
+        let cost = write_cost(self.cells, &self.objects[at], name, old)?;
         let property = Property {
             content: Content::Value(value),
             listed,
@@ -511,13 +513,20 @@ fn is_nothing(found: &Found) -> bool
     matches!(found, Found::Absent)
 }
 
-// The cells that a write under a name takes, where neither the array would be too long nor the heap full.
-fn write_cost(cells: u64, object: &Object, name: &Text) -> Result<u64, HeapAnswer>
-    requires { cells ≤ 2000000 }
+// The cells that a write under a name takes, where neither the array would be too long nor the heap full. What it finds
+// under the name has the marks `old`.
+fn write_cost(
+    cells: u64,
+    object: &Object,
+    name: &Text,
+    old: Option<Marks>,
+) -> Result<u64, HeapAnswer>
+    requires few { cells ≤ 2000000 }
+    requires old { old ≡ own_marks object.now name.now }
     ensures cost { result ≡ property_cost cells object.now name.now }
     ensures within { IfOk result (λ cost. cells + cost ≤ 2000000) }
 {
-    limited_cost(cells, object.grown_length(name), object.put_cost(name))
+    limited_cost(cells, object.grown_length(name), object.put_cost(name, old))
 }
 
 // So many cells more, where neither the array of this length would be too long nor the heap full.
