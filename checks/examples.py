@@ -60,15 +60,17 @@ def examples(ending):
 
 
 def example_words(name):
-    """The words of an example: `map` where it has a file of names, else `resolve`; and those of its file of words."""
-    names, more = f"examples/{name}.names", f"examples/{name}.words"
+    """The words of an example: `map` where it has a file of names, else `resolve`; its URL, or where it has none its
+    batch; and those of its file of words."""
+    names, url, more = (f"examples/{name}.{ending}" for ending in ["names", "url", "words"])
     words = ["map", "--names", names] if os.path.exists(names) else ["resolve"]
-    words += [f"examples/{name}.pac", contents(f"examples/{name}.url").strip()]
+    words += [f"examples/{name}.pac"]
+    words += [contents(url).strip()] if os.path.exists(url) else ["--batch", f"examples/{name}.batch"]
     return words + (contents(more).split() if os.path.exists(more) else [])
 
 
 def check_examples(failures):
-    printed, run = examples(".printed"), examples(".url")
+    printed, run = examples(".printed"), examples(".report")
     for name in printed:
         text = contents(f"examples/{name}.printed")
         check(failures, f"check {name}", ["./pac", "check", f"examples/{name}.pac"], (text, 0))

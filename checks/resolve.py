@@ -43,9 +43,16 @@ def result_of(host):
 
 
 def report(*blocks):
-    """The report of URLs, each with what it came to and its runs."""
-    lines = [f"url {place} {url}\n{end}\nruns {runs}\n" for place, (url, end, runs) in enumerate(blocks, 1)]
-    return "".join(lines).encode()
+    """The report of URLs, each with what it came to and its runs. The proxies of a result are tried in its order."""
+    lines = []
+    for place, (url, end, runs) in enumerate(blocks, 1):
+        lines += [f"url {place} {url}", end, *tries(end), f"runs {runs}"]
+    return "".join(f"{line}\n" for line in lines).encode()
+
+
+def tries(end):
+    """The lines of the proxies of a result, which the scripts of this file write as a report does."""
+    return [f"try {proxy}" for proxy in end.removeprefix("result ").split("; ")] if end.startswith("result ") else []
 
 
 def resolve(port, script, urls, *options):

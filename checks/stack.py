@@ -67,7 +67,7 @@ def called(command, script, *words):
 
 def main():
     failures = []
-    direct = (f"url 1 {URL}\nresult DIRECT\nruns 1\n", 0)
+    direct = (f"url 1 {URL}\nresult DIRECT\ntry DIRECT\nruns 1\n", 0)
     scripts = {f"{NESTING} {name}": nested(NESTING, *shape) for name, shape in NESTED.items()}
     scripts |= {f"{NESTING // 2} {name}": nested(NESTING // 2, *shape) for name, shape in TWICE.items()}
     for name, script in scripts.items():

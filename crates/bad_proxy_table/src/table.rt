@@ -2,9 +2,8 @@
 ghost use Rattle.std.specs.Prelude.{◌≡◌, ◌∷◌, ◌++◌, [], List, IfOk, OnOk, OnErr, filter};
 ghost use Rattle.std.specs.Option.{option_copied};
 ghost use Rattle.bad_proxy_table.specs.Retry.{Report, Failed, Worked, StandsFor, good_first, is_bad, is_bad_in, is_recent, try_order};
-ghost use Rattle.proxy_list.specs.Proxies.{is_direct};
 
-use proxy_list::{Proxy, ProxyKind, ProxyList};
+use proxy_list::{Proxy, ProxyList};
 use std::alloc::Global;
 use std::collections::BTreeMap;
 use std::marker::Model;
@@ -47,15 +46,16 @@ impl BadTable {
         Ok(())
     }
 
-    /// Takes in that a proxy worked at a moment.
+    /// Takes in that a proxy worked at a moment. It takes no memory.
     pub fn worked(&mut self, _alloc: Global, proxy: &Proxy, moment: i64) -> Result<(), Memory>
-        ensures { OnOk result ((reports : List Report) → StandsFor self.old reports → StandsFor self.new (Worked proxy.now moment ∷ reports)) }
+        ensures ok { OnOk result ((reports : List Report) → StandsFor self.old reports → StandsFor self.new (Worked proxy.now moment ∷ reports)) }
+        ensures unchanged { OnErr result (self.new ≡ self.old) }
     {
         let _failed = self.failures.remove(proxy);
         Ok(())
     }
 
-    /// Whether the last report on a proxy is a failure of at most 299 seconds before the moment. `DIRECT` never is bad.
+    /// Whether the last report on a proxy is a failure less than 300 seconds before the moment. `DIRECT` never is bad.
     pub fn is_bad(&self, proxy: &Proxy, moment: i64) -> bool
         ensures { (reports : List Report) → StandsFor self.now reports → result ≡ is_bad reports proxy.now moment }
     {
@@ -73,7 +73,7 @@ impl BadTable {
     fn has_bad(&self, proxy: &Proxy, moment: i64) -> bool
         ensures { result ≡ is_bad_in self.now moment proxy.now }
     {
-        !is_direct(proxy.kind) && is_recent(self.failures.get(proxy), moment)
+        !proxy.kind.is_direct() && is_recent(self.failures.get(proxy), moment)
     }
 
     fn good_first(&self, alloc: Global, proxies: &[Proxy], moment: i64) -> Result<ProxyList, Memory>
@@ -106,12 +106,6 @@ impl BadTable {
         }
         Ok(())
     }
-}
-
-fn is_direct(kind: ProxyKind) -> bool
-    ensures { result ≡ is_direct kind }
-{
-    matches!(kind, ProxyKind::Direct)
 }
 
 // Whether there is a failure, and it counts at a moment.

@@ -1,12 +1,13 @@
 -- What the code makes of one line of a batch.
-use Rattle.std.specs.Prelude.{◌≡◌, ℕ, ◌+◌, ℤ, List, ◌∷◌, ◌++◌, length, map, Option, Some, None, Result, Ok, Err}
+use Rattle.std.specs.Prelude.{◌≡◌, ℕ, ◌+◌, ℤ, List, [], ◌∷◌, ◌++◌, Bool, true, false, ◌||◌, map, Option, Some, None, Result, Ok, Err}
 use Rattle.std.specs.Option.{unwrap_or}
+use Rattle.batch_text.specs.declared.batch.BatchLine.{BatchLine}
 use Rattle.batch_text.specs.declared.batch.Line.{Line}
 use Rattle.batch_text.specs.declared.batch.Line.TheVariants as line
 use Rattle.batch_text.specs.declared.batch.Reading.{Reading}
 use Rattle.batch_text.specs.declared.batch.BatchAnswer.{BatchAnswer}
 use Rattle.batch_text.specs.declared.batch.BatchAnswer.TheVariants.{Refused, Memory}
-use Rattle.batch_text.specs.Batch.{BatchSaid, Nothing, At, Get, Bad, GetLine, refusal, gets_from, get_of}
+use Rattle.batch_text.specs.Batch.{BatchSaid, Nothing, At, Get, Fail, Good, Bad, BatchEntry, refusal, has_moment, entries_from, entry_seen}
 use Rattle.batch_text.specs.View.{view_of}
 
 -- what a line says, as the code has it
@@ -14,6 +15,8 @@ abbrev pub said : Line → BatchSaid
 said line.Nothing = Nothing
 said (line.At moment) = At moment
 said (line.Get url) = Get (view_of url.now)
+said (line.Fail proxy) = Fail proxy
+said (line.Good proxy) = Good proxy
 said line.Bad = Bad
 
 -- the moment that is named behind a line
@@ -26,17 +29,23 @@ abbrev pub gets_after : ℕ → BatchSaid → ℕ
 gets_after gets (Get seen) = gets + 1
 gets_after gets line = gets
 
--- the URLs that the reading has, and those of the lines behind it
-abbrev pub gets_with : Reading → List BatchSaid → List GetLine
-gets_with reading rest = map get_of reading.batch ++ gets_from (unwrap_or reading.named reading.start) rest
+-- what the reading has, and what the lines behind it ask and tell
+abbrev pub entries_with : Reading → List BatchSaid → List BatchEntry
+entries_with reading rest = map entry_seen reading.batch ++ entries_from (unwrap_or reading.named reading.start) rest
 
--- the line is taken in, and its URL with it; or it is refused
+-- whether the reading has a line that is at a moment
+abbrev pub is_begun : List BatchLine → Bool
+is_begun [] = false
+is_begun (line ∷ lines) = true
+
+-- the line is taken in; or it is refused
 abbrev pub EntersBatch : Reading → BatchSaid → ℕ → Result (Unit {0}) BatchAnswer → Reading → Type 0
 EntersBatch before line number (Ok done) after =
-    (refusal before.named (length before.batch) line ≡ None)
+    (refusal before.named (is_begun before.batch) before.gets line ≡ None)
     × (after.named ≡ named_after before.named line)
-    × (length after.batch ≡ gets_after (length before.batch) line)
-    × ((rest : List BatchSaid) → gets_with before (line ∷ rest) ≡ gets_with after rest)
+    × (is_begun after.batch ≡ (has_moment line || is_begun before.batch))
+    × (after.gets ≡ gets_after before.gets line)
+    × ((rest : List BatchSaid) → entries_with before (line ∷ rest) ≡ entries_with after rest)
 EntersBatch before line number (Err (Refused kind at)) after =
-    (refusal before.named (length before.batch) line ≡ Some kind) × (at ≡ number)
+    (refusal before.named (is_begun before.batch) before.gets line ≡ Some kind) × (at ≡ number)
 EntersBatch before line number (Err Memory) after = Unit {0}

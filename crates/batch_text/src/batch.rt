@@ -1,5 +1,5 @@
 // Batches.
-ghost use Rattle.std.specs.Prelude.{◌≡◌, ◌≤◌, length};
+ghost use Rattle.std.specs.Prelude.{◌≡◌, ◌≤◌, IfOk, length};
 ghost use Rattle.std.specs.Char.{is_ascii_digit};
 ghost use Rattle.std.specs.List.{list_all};
 ghost use Rattle.batch_text.specs.View.{view_of};
@@ -15,15 +15,21 @@ ghost use Rattle.batch_text.specs.Batch.{
   moment_of,
   is_number,
   goes_back,
+  Fail,
+  Good,
+  fail_line,
+  good_line,
+  proxy_of,
 };
-ghost use Rattle.batch_text.specs.BatchEntering.{EntersBatch, said};
+ghost use Rattle.batch_text.specs.BatchEntering.{EntersBatch, is_begun, said};
 
 use crate::lines::{rest, says_nothing, text_of, word};
 use crate::seen::{View, ViewAnswer};
 use crate::urls::view;
 use bstr::ByteSlice;
+use proxy_list::{Proxy, parse_entry};
 use std::alloc::Global;
-use utf16_text::{List, Memory};
+use utf16_text::{List, Memory, Text};
 
 /// The most URLs of a batch.
 const MOST_URLS: usize = 256;
@@ -31,24 +37,28 @@ const MOST_URLS: usize = 256;
 /// The end of the year 9998, in seconds since 1970 in UTC.
 const LAST_MOMENT: i64 = 253_370_764_799;
 
-/// One line of a batch that asks for something.
+/// One line of a batch that asks or tells something at a moment, in seconds since 1970 in UTC.
 #[derive(Drop)]
 pub enum BatchLine {
-    /// One URL at a moment, in seconds since 1970 in UTC.
+    /// A URL is asked about.
     Get(i64, View),
+    /// A proxy failed.
+    Fail(i64, Proxy),
+    /// A proxy worked.
+    Good(i64, Proxy),
 }
 
-/// The lines of a batch that ask for something, in order.
+/// The lines of a batch that ask or tell something, in order.
 pub type Batch = List<BatchLine>;
 
 /// Why a line of a batch is refused.
 #[derive(Clone, Copy, Debug, PartialEq, Eq)]
 pub enum BatchKind {
-    /// It is no UTF-8, or neither `at` with a moment nor `get` with a URL.
+    /// It is no UTF-8, or neither `at` with a moment, `get` with a URL, nor `fail` or `good` with a proxy.
     BadLine,
     /// Its URL has no view.
     BadUrl,
-    /// Its moment is before that of an earlier line, or is the first one and stands behind a URL.
+    /// Its moment is before that of an earlier line, or is the first one and stands behind a line that has a moment.
     BackwardTime,
     /// Its URL is the 257th.
     TooMany,
@@ -74,11 +84,13 @@ impl From<Memory> for BatchAnswer {
 }
 
 /// What a line says.
-#[derive(Clone, Copy)]
+#[derive(Drop)]
 enum Line<'a> {
     Nothing,
     At(i64),
     Get(&'a str),
+    Fail(Proxy),
+    Good(Proxy),
     Bad,
 }
 
@@ -88,11 +100,14 @@ struct Reading {
     start: i64,
     /// The moment of the last line `at`.
     named: Option<i64>,
+    /// How many URLs there are.
+    gets: usize,
     batch: Batch,
 }
 
-/// The URLs of a batch, each at its moment. A line is `at` and a moment from there on, or `get` and a URL; one that is
-/// blank or begins with `#` says nothing. Before the first line `at` the moment is `start`.
+/// What a batch asks and tells, each at its moment. A line is `at` and a moment from there on, `get` and a URL, or
+/// `fail` or `good` and an entry of a proxy list other than `DIRECT`; one that is blank or begins with `#` says nothing.
+/// Before the first line `at` the moment is `start`.
 pub fn read_batch(alloc: Global, bytes: &[u8], start: i64) -> Result<Batch, BatchAnswer>
     requires { length bytes.now ≤ 1048576 }
     ensures { ReadsBatch result (batch_in start bytes.now) }
@@ -100,6 +115,7 @@ pub fn read_batch(alloc: Global, bytes: &[u8], start: i64) -> Result<Batch, Batc
     let mut reading = Reading {
         start,
         named: None,
+        gets: 0,
         batch: Batch::new(alloc),
     };
     let mut number = 0_u32;
@@ -114,10 +130,12 @@ pub fn read_batch(alloc: Global, bytes: &[u8], start: i64) -> Result<Batch, Batc
 fn enter(alloc: Global, reading: &mut Reading, line: &[u8], number: u32) -> Result<(), BatchAnswer>
     ensures { EntersBatch reading.old (line_of line.now) number result reading.new }
 {
-    match line_of(line) {
+    match line_of(alloc, line)? {
         Line::Nothing => Ok(()),
         Line::At(moment) => enter_moment(reading, moment, number),
         Line::Get(url) => enter_url(alloc, reading, url, number),
+        Line::Fail(proxy) => enter_failure(alloc, reading, proxy, number),
+        Line::Good(proxy) => enter_success(alloc, reading, proxy, number),
         Line::Bad => Err(BatchAnswer::Refused(BatchKind::BadLine, number)),
     }
 }
@@ -133,7 +151,7 @@ fn enter_moment(reading: &mut Reading, moment: i64, number: u32) -> Result<(), B
 }
 
 fn goes_back(reading: &Reading, moment: i64) -> bool
-    ensures { result ≡ goes_back reading.now.named (length reading.now.batch) moment }
+    ensures { result ≡ goes_back reading.now.named (is_begun reading.now.batch) moment }
 {
     match reading.named {
         Some(earlier) => moment < earlier,
@@ -149,13 +167,14 @@ fn enter_url(
 ) -> Result<(), BatchAnswer>
     ensures { EntersBatch reading.old (Get (view_of url.now)) number result reading.new }
 {
-    if reading.batch.len() >= MOST_URLS {
+    if reading.gets >= MOST_URLS {
         return Err(BatchAnswer::Refused(BatchKind::TooMany, number));
     }
     match view(alloc, url) {
         Ok(view) => {
             let moment = reading.named.unwrap_or(reading.start);
             reading.batch.push(alloc, BatchLine::Get(moment, view))?;
+            reading.gets += 1;
             Ok(())
         }
         Err(ViewAnswer::BadUrl) => Err(BatchAnswer::Refused(BatchKind::BadUrl, number)),
@@ -163,25 +182,81 @@ fn enter_url(
     }
 }
 
-fn line_of(line: &[u8]) -> Line<'_>
-    ensures { said result ≡ line_of line.now }
+fn enter_failure(
+    alloc: Global,
+    reading: &mut Reading,
+    proxy: Proxy,
+    number: u32,
+) -> Result<(), BatchAnswer>
+    ensures { EntersBatch reading.old (Fail proxy) number result reading.new }
+{
+    let moment = reading.named.unwrap_or(reading.start);
+    reading.batch.push(alloc, BatchLine::Fail(moment, proxy))?;
+    Ok(())
+}
+
+fn enter_success(
+    alloc: Global,
+    reading: &mut Reading,
+    proxy: Proxy,
+    number: u32,
+) -> Result<(), BatchAnswer>
+    ensures { EntersBatch reading.old (Good proxy) number result reading.new }
+{
+    let moment = reading.named.unwrap_or(reading.start);
+    reading.batch.push(alloc, BatchLine::Good(moment, proxy))?;
+    Ok(())
+}
+
+fn line_of(alloc: Global, line: &[u8]) -> Result<Line<'_>, Memory>
+    ensures { IfOk result (λ l. said l ≡ line_of line.now) }
 {
     match text_of(line) {
-        Some(text) => text_line(text),
-        None => Line::Bad,
+        Some(text) => text_line(alloc, text),
+        None => Ok(Line::Bad),
     }
 }
 
-fn text_line(line: &str) -> Line<'_>
-    ensures { said result ≡ text_line line.now }
+fn text_line(alloc: Global, line: &str) -> Result<Line<'_>, Memory>
+    ensures { IfOk result (λ l. said l ≡ text_line line.now) }
 {
     if says_nothing(line) {
-        return Line::Nothing;
+        return Ok(Line::Nothing);
     }
     match word(line) {
-        "at" => at_line(rest(line)),
-        "get" => get_line(rest(line)),
-        _ => Line::Bad,
+        "at" => Ok(at_line(rest(line))),
+        "get" => Ok(get_line(rest(line))),
+        "fail" => fail_line(alloc, rest(line)),
+        "good" => good_line(alloc, rest(line)),
+        _ => Ok(Line::Bad),
+    }
+}
+
+fn fail_line<'a>(alloc: Global, entry: &str) -> Result<Line<'a>, Memory>
+    ensures { IfOk result (λ l. said l ≡ fail_line (proxy_of entry.now)) }
+{
+    match proxy_of(alloc, entry)? {
+        Some(proxy) => Ok(Line::Fail(proxy)),
+        None => Ok(Line::Bad),
+    }
+}
+
+fn good_line<'a>(alloc: Global, entry: &str) -> Result<Line<'a>, Memory>
+    ensures { IfOk result (λ l. said l ≡ good_line (proxy_of entry.now)) }
+{
+    match proxy_of(alloc, entry)? {
+        Some(proxy) => Ok(Line::Good(proxy)),
+        None => Ok(Line::Bad),
+    }
+}
+
+/// The proxy that a text names.
+fn proxy_of(alloc: Global, entry: &str) -> Result<Option<Proxy>, Memory>
+    ensures { IfOk result (λ proxy. proxy ≡ proxy_of entry.now) }
+{
+    match parse_entry(alloc, &Text::from_str(alloc, entry)?)? {
+        Some(proxy) if !proxy.kind.is_direct() => Ok(Some(proxy)),
+        _ => Ok(None),
     }
 }
 

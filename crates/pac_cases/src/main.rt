@@ -3,7 +3,7 @@
 //!
 //! The cases are those of the page on the Netscape Navigator Proxy Auto-Config format, those of the URL Standard, and
 //! those in which docs/ decides what they leave open. It reads them from its input, and stands on pac_match,
-//! pac_calendar, pac_functions and batch_text.
+//! pac_calendar, pac_functions, proxy_list and batch_text.
 #![tactic(auto)]
 
 mod batches;

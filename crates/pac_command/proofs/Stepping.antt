@@ -1,10 +1,9 @@
 -- Steps of commands, one after another.
 use Rattle.std.proofs.Common.{◌≡◌, List, Option, Result, Ok, Err, sym, subst, ap}
-use Rattle.std.specs.Prelude.{Vec}
 use Rattle.std.specs.Result.{IsErrAnd}
-use Rattle.std.specs.declared.alloc.Global.{Global}
+use Rattle.batch_text.specs.declared.batch.BatchLine.{BatchLine}
+use Rattle.batch_text.specs.Batch.{BatchEntry}
 use Rattle.js_evaluation.specs.Evaluation.{Entry}
-use Rattle.js_interp.specs.declared.entry.Entry as code
 use Rattle.js_scope.specs.declared.program.Program.{Program}
 use Rattle.js_scope.specs.Gives.{IsProgramOf}
 use Rattle.pac_plan.specs.Plan as plans
@@ -17,7 +16,7 @@ use Rattle.pac_command.specs.declared.early.Early.{Early}
 use Rattle.pac_command.specs.declared.early.Early.TheVariants as early
 use Rattle.pac_command.specs.Plans.{CommandPlan, Follows}
 use Rattle.pac_command.specs.Steps.{IsStep, said, said_by}
-use Rattle.pac_command.specs.Urls.{seen_entries}
+use Rattle.pac_command.specs.Urls.{seen_batch}
 
 -- this error
 abbrev pub IsThis : Early → Early → Type 0
@@ -40,17 +39,13 @@ pub no_step : {A : Type 0} (step : (A → CommandPlan) → CommandPlan) (o : Out
     → IsErrAnd r (IsThis early.Memory) → IsStep step o r o
 no_step step o r h = step_ends step o o r early.Memory h (λ next. gives_up talks (step next) o)
 
-entries_end : (r : Result (Vec code.Entry Global) Early) (this : Early) → IsErrAnd r (IsThis this) → IsErrAnd (seen_entries r) (IsThis this)
-entries_end (Ok entries) this h = h
-entries_end (Err e) this h = h
+batch_ends : (r : Result (List BatchLine) Early) (this : Early) → IsErrAnd r (IsThis this) → IsErrAnd (seen_batch r) (IsThis this)
+batch_ends (Ok batch) this h = h
+batch_ends (Err e) this h = h
 
-pub no_entries : (step : (List Entry → CommandPlan) → CommandPlan) (o : Outside) (r : Result (Vec code.Entry Global) Early)
-    → IsErrAnd r (IsThis early.Memory) → IsStep step o (seen_entries r) o
-no_entries step o r h = no_step step o (seen_entries r) (entries_end r early.Memory h)
-
-pub entries_ends : (step : (List Entry → CommandPlan) → CommandPlan) (old new : Outside) (r : Result (Vec code.Entry Global) Early) (this : Early)
-    → IsErrAnd r (IsThis this) → ((next : List Entry → CommandPlan) → Follows (step next) old new (said this)) → IsStep step old (seen_entries r) new
-entries_ends step old new r this h f = step_ends step old new (seen_entries r) this (entries_end r this h) f
+pub no_batch : (step : (List BatchEntry → CommandPlan) → CommandPlan) (o : Outside) (r : Result (List BatchLine) Early)
+    → IsErrAnd r (IsThis early.Memory) → IsStep step o (seen_batch r) o
+no_batch step o r h = no_step step o (seen_batch r) (batch_ends r early.Memory h)
 
 -- what is said then
 pub said_is : (r : Result Output Early) (this : Early) → IsErrAnd r (IsThis this) → said_by r ≡ said this
@@ -61,3 +56,8 @@ said_is (Err e) this h = ap said h
 pub program_is : (plan : Resolved → CommandPlan) (script : Resolved) (program : Program) (old new : Outside) (made : Option plans.Output)
     → IsProgramOf script program → Follows (plan (program_of program)) old new made → Follows (plan script) old new made
 program_is plan script program old new made same h = subst (λ (p : Resolved). Follows (plan p) old new made) (sym same) h
+
+-- what is followed with runs for these is followed with runs for their equals
+pub entries_are : (plan : List Entry → CommandPlan) (asked had : List Entry) (old new : Outside) (made : Option plans.Output)
+    → had ≡ asked → Follows (plan had) old new made → Follows (plan asked) old new made
+entries_are plan asked had old new made same h = subst (λ (entries : List Entry). Follows (plan entries) old new made) same h

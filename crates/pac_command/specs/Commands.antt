@@ -15,7 +15,7 @@ use Rattle.pac_command.specs.declared.given.Given.{Given}
 use Rattle.pac_command.specs.Begun.{begun}
 use Rattle.pac_command.specs.Scripts.{script_from}
 use Rattle.pac_command.specs.Names.{names_from}
-use Rattle.pac_command.specs.Urls.{urls_from}
+use Rattle.pac_command.specs.Urls.{entries_for, urls_from}
 use Rattle.pac_command.specs.Check.{check_plan}
 
 abbrev pub usage : Output
@@ -28,12 +28,12 @@ asking_of a = record { server = record { address = a.server.address; port = a.se
 -- reads the script, then the URLs, runs the script for all of them at once over the link, and reports
 abbrev pub resolve_plan : Completion → List ℕ → Source → loop.Asking → Given → CommandPlan
 resolve_plan complete script source how given =
-    script_from script (λ script. urls_from given source (λ urls. over_link.resolve_plan complete how (resolved script) urls))
+    script_from script (λ script. urls_from given source (λ batch. over_link.resolve_plan complete how (resolved script) batch (entries_for given batch)))
 
 -- reads the script, then the file of names, then the URLs, runs the script once for each of them, and reports
 abbrev pub map_plan : List ℕ → List ℕ → Source → Given → CommandPlan
 map_plan names script source given =
-    script_from script (λ script. names_from names (λ answers. urls_from given source (λ urls. against_map.map_plan (resolved script) answers urls)))
+    script_from script (λ script. names_from names (λ answers. urls_from given source (λ batch. against_map.map_plan (resolved script) answers batch (entries_for given batch))))
 
 -- What the words ask for; where they aren't read, the usage. So `generate` is until it is built. What `resolve` reports is
 -- by runs against maps that agree with the log.

@@ -1,13 +1,11 @@
--- The URLs that a command is for, and what it says where they aren't read.
-use Rattle.std.specs.Prelude.{ℕ, ℤ, List, [], ◌∷◌, codes, map, Result, Ok, Err, Vec}
-use Rattle.std.specs.declared.alloc.Global.{Global}
+-- The batch that a command is for, and what it says where it isn't read. One URL is a batch of it alone.
+use Rattle.std.specs.Prelude.{ℕ, ℤ, List, [], ◌∷◌, codes, map, Result, Ok, Err}
 use Rattle.batch_text.specs.View.{Seen, view_of}
 use Rattle.batch_text.specs.declared.batch.BatchKind.{BatchKind}
 use Rattle.batch_text.specs.declared.batch.BatchKind.TheVariants as kind
-use Rattle.batch_text.specs.Batch.{GetLine, batch_in}
+use Rattle.batch_text.specs.declared.batch.BatchLine.{BatchLine}
+use Rattle.batch_text.specs.Batch.{BatchEntry, Asks, batch_in, entry_seen}
 use Rattle.js_evaluation.specs.Evaluation.{Entry}
-use Rattle.js_interp.specs.declared.entry.Entry as code
-use Rattle.js_interp.specs.Answers.{entry_of}
 use Rattle.pac_clocks.specs.Clocks.{moments_at, nearest}
 use Rattle.pac_plan.specs.Plan.{Output, say, read}
 use Rattle.pac_words.specs.Commands.{Source, batch_file, one_url}
@@ -30,9 +28,9 @@ entry_at given moment seen = record {
 -- ---- one URL
 
 -- goes on with the URL at the moment of the command, or refuses it
-abbrev pub url_then : Given → List ℕ → (List Entry → CommandPlan) → CommandPlan
+abbrev pub url_then : Given → List ℕ → (List BatchEntry → CommandPlan) → CommandPlan
 url_then given url next =
-    if_there (view_of url) (say (refused (codes "url BadUrl"))) (λ seen. next (entry_at given given.start seen ∷ []))
+    if_there (view_of url) (say (refused (codes "url BadUrl"))) (λ seen. next (Asks given.start seen ∷ []))
 
 -- ---- a batch
 
@@ -45,22 +43,27 @@ batch_kind kind.TooMany = codes "TooMany"
 abbrev pub refused_batch : BatchKind × ℕ → Output
 refused_batch refusal = refused_line (codes "batch") refusal.1 (batch_kind refusal.0)
 
-abbrev pub entries_for : Given → List GetLine → List Entry
-entries_for given lines = map (λ l. entry_at given l.moment l.seen) lines
-
--- goes on with the URLs of a batch of these bytes, each at its moment, or says its first refused line
-abbrev pub batch_then : Given → List ℕ → (List Entry → CommandPlan) → CommandPlan
+-- goes on with the batch of these bytes, or says its first refused line
+abbrev pub batch_then : Given → List ℕ → (List BatchEntry → CommandPlan) → CommandPlan
 batch_then given bytes next =
-    if_read (batch_in given.start bytes) (λ refusal. say (refused_batch refusal)) (λ lines. next (entries_for given lines))
+    if_read (batch_in given.start bytes) (λ refusal. say (refused_batch refusal)) next
 
 -- ---- both
 
--- goes on with the one URL, or with those of the batch, which is read
-abbrev pub urls_from : Given → Source → (List Entry → CommandPlan) → CommandPlan
+-- goes on with the one URL, or with the batch, which is read
+abbrev pub urls_from : Given → Source → (List BatchEntry → CommandPlan) → CommandPlan
 urls_from given (one_url url) next = url_then given url next
 urls_from given (batch_file file) next = read (codes "batch") file (λ bytes. batch_then given bytes next)
 
 -- what the code has
-abbrev pub seen_entries : Result (Vec code.Entry Global) Early → Result (List Entry) Early
-seen_entries (Ok entries) = Ok (map entry_of entries.items)
-seen_entries (Err early) = Err early
+abbrev pub seen_batch : Result (List BatchLine) Early → Result (List BatchEntry) Early
+seen_batch (Ok batch) = Ok (map entry_seen batch)
+seen_batch (Err early) = Err early
+
+-- ---- the runs
+
+-- what the runs for the URLs of a batch are for
+abbrev pub entries_for : Given → List BatchEntry → List Entry
+entries_for given [] = []
+entries_for given (Asks moment seen ∷ rest) = entry_at given moment seen ∷ entries_for given rest
+entries_for given (entry ∷ rest) = entries_for given rest

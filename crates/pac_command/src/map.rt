@@ -10,7 +10,7 @@ ghost use Rattle.pac_command.specs.Commands as plan;
 use crate::early::Early;
 use crate::given::{Given, given_by};
 use crate::inputs::{read_names_file, read_script_file};
-use crate::urls::read_urls;
+use crate::urls::{entries_for, read_urls};
 use js_scope::resolve as resolve_names;
 use pac_plan::Output;
 use pac_ports::{Clock, Files};
@@ -61,9 +61,10 @@ fn map_given<F: Files, L: Ledger>(
 {
     let script = read_script_file(alloc, script, files)?;
     let answers = read_names_file(alloc, names, files)?;
-    let urls = read_urls(alloc, from, given, files)?;
+    let batch = read_urls(alloc, from, given, files)?;
+    let entries = entries_for(alloc, &batch, given)?;
     let program = resolve_names(alloc, script)?;
-    let output = map_urls(alloc, &program, urls, &answers, runs)?;
+    let output = map_urls(alloc, &program, &batch, entries, &answers, runs)?;
     // The process ends with its command, so the tree of a script isn't taken apart node by node.
     mem::forget(program);
     Ok(output)

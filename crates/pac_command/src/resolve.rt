@@ -12,7 +12,7 @@ ghost use Rattle.pac_command.specs.Commands as plan;
 use crate::early::Early;
 use crate::given::{Given, given_by};
 use crate::inputs::read_script_file;
-use crate::urls::read_urls;
+use crate::urls::{entries_for, read_urls};
 use js_scope::resolve as resolve_names;
 use pac_plan::Output;
 use pac_ports::{Clock, Dice, Files, Link};
@@ -68,9 +68,10 @@ fn resolve_given<F: Files, N: Link, D: Dice, L: Ledger>(
         (record o { files = F.state files.new; link = N.state link.new; dice = D.told dice.new; runs = runs.new }) (said_by result) }
 {
     let script = read_script_file(alloc, script, files)?;
-    let urls = read_urls(alloc, from, given, files)?;
+    let batch = read_urls(alloc, from, given, files)?;
+    let entries = entries_for(alloc, &batch, given)?;
     let program = resolve_names(alloc, script)?;
-    let output = resolve_urls(alloc, &program, urls, asking, link, dice, runs)?;
+    let output = resolve_urls(alloc, &program, &batch, entries, asking, link, dice, runs)?;
     // The process ends with its command, so the tree of a script isn't taken apart node by node.
     mem::forget(program);
     Ok(output)

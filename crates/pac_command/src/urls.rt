@@ -1,12 +1,13 @@
-// The URLs that a command is for.
+// The batch that a command is for.
 ghost use Rattle.std.specs.Prelude.{◌≡◌, ◌≤◌, ◌∷◌, [], length, IfOk, map};
 ghost use Rattle.js_interp.specs.Answers.{entry_of};
 ghost use Rattle.pac_plan.specs.Plan.{Outside};
 ghost use Rattle.pac_words.specs.Views.{source_view};
-ghost use Rattle.batch_text.specs.Batch.{get_of};
+ghost use Rattle.batch_text.specs.Batch.{entry_seen};
+ghost use Rattle.batch_text.specs.View.{seen_of};
 ghost use Rattle.pac_command.specs.Steps.{IsStep};
 ghost use Rattle.pac_command.specs.Urls as spec;
-ghost use Rattle.pac_command.specs.Urls.{batch_then, entries_for, seen_entries, url_then, urls_from};
+ghost use Rattle.pac_command.specs.Urls.{batch_then, entries_for, seen_batch, url_then, urls_from};
 
 use crate::early::Early;
 use crate::given::Given;
@@ -20,15 +21,15 @@ use pac_words::Source;
 use std::alloc::Global;
 use utf16_text::Memory;
 
-/// What the runs of a command are for: one URL, or those of a batch, each at its moment.
+/// What a command is for: one URL at the moment of the command, or a batch.
 pub(crate) fn read_urls<F: Files>(
     alloc: Global,
     from: &Source<'_>,
     given: &Given,
     files: &mut F,
-) -> Result<Vec<Entry>, Early>
+) -> Result<Batch, Early>
     ensures { (o : Outside) → IsStep (urls_from given.now (source_view from.now))
-        (record o { files = F.state files.old }) (seen_entries result) (record o { files = F.state files.new }) }
+        (record o { files = F.state files.old }) (seen_batch result) (record o { files = F.state files.new }) }
 {
     match from {
         Source::Url(url) => one_url(alloc, url, given),
@@ -40,14 +41,11 @@ pub(crate) fn read_urls<F: Files>(
 }
 
 /// One URL, at the moment of the command.
-fn one_url(alloc: Global, url: &str, given: &Given) -> Result<Vec<Entry>, Early>
-    ensures { (o : Outside) → IsStep (url_then given.now url.now) o (seen_entries result) o }
+fn one_url(alloc: Global, url: &str, given: &Given) -> Result<Batch, Early>
+    ensures { (o : Outside) → IsStep (url_then given.now url.now) o (seen_batch result) o }
 {
     match view(alloc, url) {
-        Ok(seen) => {
-            let entry = entry_at(alloc, given, given.start, seen)?;
-            Ok(only(alloc, entry)?)
-        }
+        Ok(seen) => Ok(only(alloc, BatchLine::Get(given.start, seen))?),
         Err(ViewAnswer::BadUrl) => {
             let output = refused(alloc, "url BadUrl")?;
             Err(Early::Said(output))
@@ -56,21 +54,21 @@ fn one_url(alloc: Global, url: &str, given: &Given) -> Result<Vec<Entry>, Early>
     }
 }
 
-fn only(alloc: Global, entry: Entry) -> Result<Vec<Entry>, Memory>
-    ensures { IfOk result (λ entries. entries.items ≡ entry ∷ []) }
+fn only(alloc: Global, line: BatchLine) -> Result<Batch, Memory>
+    ensures { IfOk result (λ batch. batch ≡ line ∷ []) }
 {
-    let mut entries = Vec::new(alloc);
-    entries.push(entry)?;
-    Ok(entries)
+    let mut batch = Batch::new(alloc);
+    batch.push(alloc, line)?;
+    Ok(batch)
 }
 
-/// The URLs of a batch.
-fn batch_in(alloc: Global, bytes: &[u8], given: &Given) -> Result<Vec<Entry>, Early>
+/// The batch of these bytes.
+fn batch_in(alloc: Global, bytes: &[u8], given: &Given) -> Result<Batch, Early>
     requires { length bytes.now ≤ 1048576 }
-    ensures { (o : Outside) → IsStep (batch_then given.now bytes.now) o (seen_entries result) o }
+    ensures { (o : Outside) → IsStep (batch_then given.now bytes.now) o (seen_batch result) o }
 {
     match read_batch(alloc, bytes, given.start) {
-        Ok(batch) => Ok(entries_for(alloc, batch, given)?),
+        Ok(batch) => Ok(batch),
         Err(BatchAnswer::Refused(kind, number)) => {
             let output = refused_line(alloc, "batch", number, batch_kind(kind))?;
             Err(Early::Said(output))
@@ -90,25 +88,27 @@ fn batch_kind(kind: BatchKind) -> &'static str
     }
 }
 
-fn entries_for(alloc: Global, batch: Batch, given: &Given) -> Result<Vec<Entry>, Memory>
-    ensures { IfOk result (λ entries. map entry_of entries.items ≡ entries_for given.now (map get_of batch)) }
+/// What the runs for the URLs of a batch are for, in their order.
+pub(crate) fn entries_for(alloc: Global, batch: &Batch, given: &Given) -> Result<Vec<Entry>, Memory>
+    ensures { IfOk result (λ entries. map entry_of entries.items ≡ entries_for given.now (map entry_seen batch.now)) }
 {
     let mut entries = Vec::new(alloc);
-    for line in batch.into_vec() {
-        let BatchLine::Get(moment, seen) = line;
-        entries.push(entry_at(alloc, given, moment, seen)?)?;
+    for line in batch.as_slice() {
+        if let BatchLine::Get(moment, seen) = line {
+            entries.push(entry_at(alloc, given, *moment, seen)?)?;
+        }
     }
     Ok(entries)
 }
 
 /// What a run is for: what a script sees of a URL, at a moment in seconds since 1970 in UTC.
-fn entry_at(alloc: Global, given: &Given, moment: i64, seen: View) -> Result<Entry, Memory>
-    ensures { IfOk result (λ entry. entry_of entry ≡ spec.entry_at given.now moment (record { url = seen.url; host = seen.host })) }
+fn entry_at(alloc: Global, given: &Given, moment: i64, seen: &View) -> Result<Entry, Memory>
+    ensures { IfOk result (λ entry. entry_of entry ≡ spec.entry_at given.now moment (seen_of seen.now)) }
 {
     let now = shown(alloc, moment, given.zone)?;
     Ok(Entry {
-        url: seen.url,
-        host: seen.host,
+        url: seen.url.copy(alloc)?,
+        host: seen.host.copy(alloc)?,
         now,
         settings: given.settings,
         fuel: given.fuel,

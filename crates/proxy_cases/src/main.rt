@@ -1,7 +1,7 @@
 //! Proxy lists and the order in which their proxies are tried. A table of calls with their answers.
 //!
-//! The cases are those in which docs/ decides what a list is. It reads them from its input, and stands on proxy_list and
-//! bad_proxy_table.
+//! The cases are those in which docs/PROXIES.md decides what a list is. It reads them from its input, and stands on
+//! proxy_list and bad_proxy_table.
 #![tactic(auto)]
 
 use anyhow::{Context, Result, bail};

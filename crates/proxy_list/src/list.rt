@@ -12,8 +12,8 @@ use utf16_text::{List, Memory, Text};
 /// Proxies, in the order in which a script names them.
 pub type ProxyList = List<Proxy>;
 
-/// The proxies that a text lists, parted by `;`, in its order. A piece that can't be read is skipped, and a list without
-/// any other is `DIRECT`.
+/// The proxies that a text lists, parted by `;`, in its order. A piece that can't be read is skipped, and a list
+/// without any other is `DIRECT`.
 pub fn parse_list(alloc: Global, text: &Text) -> Result<ProxyList, Memory>
     ensures { IfOk result (λ proxies. proxies ≡ proxies_of text.now) }
 {

@@ -1,5 +1,6 @@
 // Proxies.
 ghost use Rattle.std.specs.Prelude.{◌≡◌, IfOk};
+ghost use Rattle.proxy_list.specs.Proxies.{is_direct};
 
 use std::alloc::Global;
 use utf16_text::{Memory, Text};
@@ -14,8 +15,17 @@ pub enum ProxyKind {
     Socks5,
 }
 
-/// A proxy: its kind, its host in lower case, in brackets where it has a `:`, and its port from 1. `Direct` has an empty
-/// host and the port 0.
+impl ProxyKind {
+    /// Whether it is no proxy.
+    pub fn is_direct(self) -> bool
+        ensures { result ≡ is_direct self }
+    {
+        matches!(self, ProxyKind::Direct)
+    }
+}
+
+/// A proxy: its kind, its host in lower case, in brackets where it has a `:`, and its port from 1. `Direct` has an
+/// empty host and the port 0.
 #[derive(PartialEq, Eq, PartialOrd, Ord, Drop)]
 pub struct Proxy {
     pub kind: ProxyKind,

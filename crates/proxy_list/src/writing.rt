@@ -1,6 +1,6 @@
 // Entries as they are written.
 ghost use Rattle.std.specs.Prelude.{◌≡◌, ◌++◌, OnOk, map};
-ghost use Rattle.proxy_list.specs.Proxies.{address_text, byte_of, entry_text, is_direct, kind_text};
+ghost use Rattle.proxy_list.specs.Proxies.{address_text, byte_of, entry_text, kind_text};
 
 use crate::proxy::{Proxy, ProxyKind};
 use std::alloc::Global;
@@ -12,16 +12,10 @@ pub fn write_entry(alloc: Global, proxy: &Proxy, out: &mut Vec<u8>) -> Result<()
     ensures { OnOk result (out.new.items ≡ out.old.items ++ entry_text proxy.now) }
 {
     out.extend_from_slice(kind_text(proxy.kind))?;
-    if is_direct(proxy.kind) {
+    if proxy.kind.is_direct() {
         return Ok(());
     }
     write_address(alloc, proxy.host.units(), proxy.port, out)
-}
-
-fn is_direct(kind: ProxyKind) -> bool
-    ensures { result ≡ is_direct kind }
-{
-    matches!(kind, ProxyKind::Direct)
 }
 
 fn write_address(alloc: Global, host: &[u16], port: u16, out: &mut Vec<u8>) -> Result<(), Memory>

@@ -1,5 +1,5 @@
--- The report: the lines that are written of each URL, in the order of the URLs. Each line ends with a line feed.
-use Rattle.std.specs.Prelude.{ℕ, ◌+◌, List, [], ◌∷◌, ◌++◌, Bool, true, false, if◌then◌else◌, flat_map, codes}
+-- The report: the lines that are written of each URL of a batch, in the order of the URLs. Each line ends with a line feed.
+use Rattle.std.specs.Prelude.{ℕ, ◌+◌, ℤ, List, [], ◌∷◌, ◌++◌, Bool, true, false, if◌then◌else◌, flat_map, codes}
 use Rattle.std.specs.Fmt.{decimal}
 use Rattle.utf16_text.specs.Escape.{escaped}
 use Rattle.js_tree.specs.declared.place.Place.{Place}
@@ -9,6 +9,10 @@ use Rattle.js_evaluation.specs.declared.fault.FaultCode.{FaultCode}
 use Rattle.js_evaluation.specs.declared.fault.FaultCode.TheVariants as code
 use Rattle.js_evaluation.specs.Evaluation.{Ending, Gives, Fails, Outcome}
 use Rattle.js_interp.specs.Answers.{seen_outcome}
+use Rattle.bad_proxy_table.specs.Retry.{Report, Failed, Worked, try_order}
+use Rattle.batch_text.specs.Batch.{BatchEntry, Asks, ProxyFailed, ProxyWorked}
+use Rattle.proxy_list.specs.declared.proxy.Proxy.{Proxy}
+use Rattle.proxy_list.specs.Proxies.{entry_text, proxies_of}
 use Rattle.report_text.specs.declared.blocks.End as declared
 use Rattle.report_text.specs.declared.blocks.End.TheVariants as of_code
 use Rattle.report_text.specs.declared.blocks.UrlEnd as of_url
@@ -80,16 +84,38 @@ url_line number url = line (codes "url " ++ decimal number ++ 32 ∷ escaped fal
 abbrev pub runs_line : ℕ → List ℕ
 runs_line runs = line (codes "runs " ++ decimal runs)
 
-abbrev pub block : ℕ → List ℕ → UrlEnd → List ℕ
-block number url end = url_line number url ++ end_lines end.end ++ runs_line end.runs
+abbrev pub try_line : Proxy → List ℕ
+try_line proxy = line (codes "try " ++ entry_text proxy)
+
+-- the URL, how it ended with it, the proxies to try, and the runs
+abbrev pub block : ℕ → List ℕ → UrlEnd → List Proxy → List ℕ
+block number url end tries = url_line number url ++ end_lines end.end ++ flat_map try_line tries ++ runs_line end.runs
+
+-- ---- the proxies to try
+
+abbrev pub tries_by : List Report → ℤ → Ending → List Proxy
+tries_by reports moment (Gives text) = try_order reports (proxies_of text) moment
+tries_by reports moment (Fails fault) = []
+
+-- those of a result, in the order in which to try them at a moment, after these reports of proxies
+abbrev pub tries_of : List Report → ℤ → End → List Proxy
+tries_of reports moment (done outcome) = tries_by reports moment outcome.ending
+tries_of reports moment (unanswered name) = []
 
 -- ---- all of them
 
--- the blocks of URLs from this number on
-abbrev pub report_from : ℕ → List (List ℕ) → List UrlEnd → List ℕ
-report_from number [] ends = []
-report_from number (url ∷ urls) [] = []
-report_from number (url ∷ urls) (end ∷ ends) = block number url end ++ report_from (number + 1) urls ends
+-- the blocks of the URLs of a batch from this number on, after these reports of proxies, the last one first
+abbrev pub report_from : ℕ → List Report → List BatchEntry → List UrlEnd → List ℕ
+report_from number reports [] ends = []
+report_from number reports (ProxyFailed moment proxy ∷ entries) ends = report_from number (Failed proxy moment ∷ reports) entries ends
+report_from number reports (ProxyWorked moment proxy ∷ entries) ends = report_from number (Worked proxy moment ∷ reports) entries ends
+report_from number reports (Asks moment seen ∷ entries) [] = []
+report_from number reports (Asks moment seen ∷ entries) (end ∷ ends) =
+    block number seen.url end (tries_of reports moment end.end) ++ report_from (number + 1) reports entries ends
+
+-- the report of a batch
+abbrev pub report_of : List BatchEntry → List UrlEnd → List ℕ
+report_of entries ends = report_from 1 [] entries ends
 
 -- ---- what code has
 

@@ -1,5 +1,7 @@
-// The report of URLs.
-ghost use Rattle.std.specs.Prelude.{◌≡◌, ◌++◌, IfOk, OnOk, false, flat_map, map};
+// The report of a batch.
+ghost use Rattle.std.specs.Prelude.{◌≡◌, ◌++◌, List, IfOk, OnOk, false, flat_map, map};
+ghost use Rattle.bad_proxy_table.specs.Retry.{Report, StandsFor};
+ghost use Rattle.batch_text.specs.Batch.{entry_seen};
 ghost use Rattle.utf16_text.specs.Escape.{escaped};
 ghost use Rattle.js_evaluation.specs.Evaluation.{Fails};
 ghost use Rattle.js_interp.specs.Answers.{seen_outcome};
@@ -7,8 +9,11 @@ ghost use Rattle.report_text.specs.Report as spec;
 ghost use Rattle.report_text.specs.Report.{done, seen, seen_end};
 
 use crate::fault::{fault_name, has_detail};
+use bad_proxy_table::BadTable;
+use batch_text::{Batch, BatchLine};
 use js_interp::{Ending, Fault, Outcome};
 use pac_names::LookupName;
+use proxy_list::{Proxy, ProxyList, parse_list, write_entry};
 use std::alloc::Global;
 use utf16_text::{Memory, Text};
 
@@ -28,37 +33,95 @@ pub struct UrlEnd {
     pub runs: u64,
 }
 
-/// The report of URLs, as the script saw them, each with its end, in their order: lines of bytes.
-pub fn report(alloc: Global, urls: &[Text], ends: &[UrlEnd]) -> Result<Vec<u8>, Memory>
-    ensures { IfOk result (λ bytes. bytes.items ≡ spec.report_from 1 urls.now (map seen_end ends.now)) }
+/// The report of a batch, whose URLs end so, in their order: lines of bytes. Behind a result stand its proxies in the
+/// order in which to try them, by what the lines before the URL's tell of proxies.
+pub fn report(alloc: Global, batch: &Batch, ends: &[UrlEnd]) -> Result<Vec<u8>, Memory>
+    ensures { IfOk result (λ bytes. bytes.items ≡ spec.report_of (map entry_seen batch.now) (map seen_end ends.now)) }
 {
     let mut out = Vec::new(alloc);
+    let mut proxies = BadTable::new(alloc);
     let mut left = ends;
     let mut number = 1u64;
-    for url in urls {
-        let [end, rest @ ..] = left else {
-            return Ok(out);
-        };
-        write_block(alloc, &mut out, number, url, end)?;
-        left = rest;
-        number += 1;
+    for line in batch.as_slice() {
+        match line {
+            BatchLine::Fail(moment, proxy) => proxies.failed(alloc, proxy, *moment)?,
+            BatchLine::Good(moment, proxy) => proxies.worked(alloc, proxy, *moment)?,
+            BatchLine::Get(moment, view) => {
+                let [end, rest @ ..] = left else {
+                    return Ok(out);
+                };
+                write_tried(alloc, &mut out, number, &view.url, *moment, end, &proxies)?;
+                left = rest;
+                number += 1;
+            }
+        }
     }
     Ok(out)
 }
 
-/// The lines of one URL.
+/// The lines of one URL at a moment.
+fn write_tried(
+    alloc: Global,
+    out: &mut Vec<u8>,
+    number: u64,
+    url: &Text,
+    moment: i64,
+    end: &UrlEnd,
+    proxies: &BadTable,
+) -> Result<(), Memory>
+    ensures { OnOk result ((reports : List Report) → StandsFor proxies.now reports
+        → out.new.items ≡ out.old.items ++ spec.block number url.now (seen_end end.now) (spec.tries_of reports moment (seen end.now.end))) }
+{
+    let tries = tries_of(alloc, proxies, moment, &end.end)?;
+    write_block(alloc, out, number, url, end, tries.as_slice())
+}
+
+/// The proxies of a result, in the order in which to try them.
+fn tries_of(alloc: Global, proxies: &BadTable, moment: i64, end: &End) -> Result<ProxyList, Memory>
+    ensures { IfOk result (λ tries. (reports : List Report) → StandsFor proxies.now reports → tries ≡ spec.tries_of reports moment (seen end.now)) }
+{
+    let End::Done(outcome) = end else {
+        return Ok(ProxyList::new(alloc));
+    };
+    let Ending::Result(text) = &outcome.ending else {
+        return Ok(ProxyList::new(alloc));
+    };
+    proxies.order(alloc, &parse_list(alloc, text)?, moment)
+}
+
+/// The lines of one URL with these proxies to try.
 fn write_block(
     alloc: Global,
     out: &mut Vec<u8>,
     number: u64,
     url: &Text,
     end: &UrlEnd,
+    tries: &[Proxy],
 ) -> Result<(), Memory>
-    ensures { OnOk result (out.new.items ≡ out.old.items ++ spec.block number url.now (seen_end end.now)) }
+    ensures { OnOk result (out.new.items ≡ out.old.items ++ spec.block number url.now (seen_end end.now) tries.now) }
 {
     write_url(alloc, out, number, url)?;
     write_end(alloc, out, &end.end)?;
+    write_tries(alloc, out, tries)?;
     write_runs(alloc, out, end.runs)
+}
+
+fn write_tries(alloc: Global, out: &mut Vec<u8>, tries: &[Proxy]) -> Result<(), Memory>
+    ensures { OnOk result (out.new.items ≡ out.old.items ++ flat_map spec.try_line tries.now) }
+{
+    for proxy in tries {
+        write_try(alloc, out, proxy)?;
+    }
+    Ok(())
+}
+
+fn write_try(alloc: Global, out: &mut Vec<u8>, proxy: &Proxy) -> Result<(), Memory>
+    ensures { OnOk result (out.new.items ≡ out.old.items ++ spec.try_line proxy.now) }
+{
+    out.extend_from_slice(b"try ")?;
+    write_entry(alloc, proxy, out)?;
+    out.push(b'\n')?;
+    Ok(())
 }
 
 fn write_url(alloc: Global, out: &mut Vec<u8>, number: u64, url: &Text) -> Result<(), Memory>

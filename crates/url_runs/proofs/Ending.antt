@@ -11,6 +11,7 @@ use Rattle.poll_log.specs.declared.terms.Terms.{Terms}
 use Rattle.poll_log.specs.Turns.{Turns}
 use Rattle.poll_log.specs.Told.{told}
 use Rattle.poll_log.specs.Jobs.{Job, runs_of}
+use Rattle.batch_text.specs.Batch.{BatchEntry}
 use Rattle.report_text.specs.Report.{End, UrlEnd, done}
 use Rattle.session_log.specs.Asked.{job_of}
 use Rattle.session_log.specs.Sessions.{Holds}
@@ -21,7 +22,7 @@ use Rattle.session_core.specs.Beginning.{run_jobs}
 use Rattle.session_core.specs.Resolved.{AllEnded, HasEnded}
 use Rattle.url_runs.specs.declared.url_run.UrlRun.{UrlRun}
 use Rattle.url_runs.specs.Runs.{GivesOutcome, Resolved, outcome_of, seen_for, seen_run, tree_of, url_run}
-use Rattle.url_runs.specs.Ends.{end_of, session_end, url_of}
+use Rattle.url_runs.specs.Ends.{end_of, session_end}
 use Rattle.url_runs.specs.Reports.{reported}
 use Rattle.url_runs.specs.Resolving.{end_by, ended, url_job}
 
@@ -77,25 +78,13 @@ module _ (script : Resolved) (t : Terms) (h : Turns) (all : AnswerMap) (holds : 
       ∙ ap (λ (ends : List UrlEnd). ended script all t h (entry_of x) ∷ ends)
       (ends_are entries sessions (ap behind e) (All-tail HasEndedThen s sessions p) (All-tail IsCounted s sessions n))
 
-  -- and the URLs
-  urls_are : (entries : List Entry) (sessions : List (Session UrlRun Outcome)) → seen_runs sessions ≡ map (seen_for script) entries
-      → map url_of sessions ≡ map (λ (x : def.Entry). x.url) (map entry_of entries)
-  urls_are [] [] e = refl
-  urls_are [] (s ∷ sessions) e = cc
-  urls_are (x ∷ entries) [] e = cc
-  urls_are (x ∷ entries) (s ∷ sessions) e =
-      ap (λ (url : List ℕ). url ∷ map url_of sessions) (ap (λ (run : Resolved × def.Entry). run.1.url) (ap (first_or (seen_run s.run)) e))
-      ∙ ap (λ (urls : List (List ℕ)). x.url ∷ urls) (urls_are entries sessions (ap behind e))
-
   -- all of the report
-  pub reported_are : (entries : List Entry) (runs : List UrlRun) (sessions : List (Session UrlRun Outcome)) → map seen_run runs ≡ map (seen_for script) entries
+  pub reported_are : (batch : List BatchEntry) (entries : List Entry) (runs : List UrlRun) (sessions : List (Session UrlRun Outcome)) → map seen_run runs ≡ map (seen_for script) entries
       → AllEnded GivesOutcome tree_of runs t h sessions
-      → reported (map url_of sessions) (map session_end sessions)
-      ≡ reported (map (λ (x : def.Entry). x.url) (map entry_of entries)) (map (ended script all t h) (map entry_of entries))
-  reported_are entries runs sessions e ends =
+      → reported batch (map session_end sessions) ≡ reported batch (map (ended script all t h) (map entry_of entries))
+  reported_are batch entries runs sessions e ends =
       let same : seen_runs sessions ≡ map (seen_for script) entries = ap (map seen_run) ends.runs_are ∙ e in
-      ap (λ (urls : List (List ℕ)). reported urls (map session_end sessions)) (urls_are entries sessions same)
-      ∙ ap (reported (map (λ (x : def.Entry). x.url) (map entry_of entries))) (ends_are entries sessions same ends.ended ends.counted)
+      ap (reported batch) (ends_are entries sessions same ends.ended ends.counted)
 
 -- what is polled for are the jobs of the URLs
 pub jobs_are : (script : Resolved) (entries : List Entry) (runs : List UrlRun) → map seen_run runs ≡ map (seen_for script) entries

@@ -1,5 +1,4 @@
 -- What is reported of sessions that have ended, as the code has them.
-use Rattle.std.specs.Prelude.{ℕ, List}
 use Rattle.js_interp.specs.declared.outcome.Outcome.{Outcome}
 use Rattle.js_interp.specs.Answers.{seen_outcome}
 use Rattle.report_text.specs.Report.{End, UrlEnd, done, unanswered}
@@ -15,6 +14,3 @@ end_of (Waiting name) = unanswered name
 
 abbrev pub session_end : Session UrlRun Outcome → UrlEnd
 session_end session = record { end = end_of session.state; runs = session.runs }
-
-abbrev pub url_of : Session UrlRun Outcome → List ℕ
-url_of session = session.run.entry.url

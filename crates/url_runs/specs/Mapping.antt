@@ -1,6 +1,7 @@
 -- A script for URLs, against a map of all names: one run for each of them.
 use Rattle.std.specs.Prelude.{List, [], ◌∷◌, map}
 use Rattle.js_host.specs.Answers.{AnswerMap}
+use Rattle.batch_text.specs.Batch.{BatchEntry}
 use Rattle.js_evaluation.specs.Evaluation.{Entry}
 use Rattle.poll_loop.specs.Task.{Talk}
 use Rattle.pac_plan.specs.Plan.{Plan, run, say}
@@ -16,6 +17,6 @@ abbrev pub run_each : List Entry → Plan Talk → Plan Talk
 run_each [] next = next
 run_each (entry ∷ entries) next = run (run_each entries next)
 
-abbrev pub map_plan : Resolved → AnswerMap → List Entry → Plan Talk
-map_plan program answers entries =
-    run_each entries (say (reported (map (λ e. e.url) entries) (map (mapped program answers) entries)))
+-- of a batch, for whose URLs these runs are
+abbrev pub map_plan : Resolved → AnswerMap → List BatchEntry → List Entry → Plan Talk
+map_plan program answers batch entries = run_each entries (say (reported batch (map (mapped program answers) entries)))

@@ -1,8 +1,9 @@
--- What is reported of URLs, and with which status.
-use Rattle.std.specs.Prelude.{ℕ, List, Bool, true, false, if◌then◌else◌}
+-- What is reported of a batch, and with which status.
+use Rattle.std.specs.Prelude.{List, Bool, true, false, if◌then◌else◌}
 use Rattle.std.specs.List.{list_any}
 use Rattle.js_evaluation.specs.Evaluation.{Ending, Gives, Fails}
-use Rattle.report_text.specs.Report.{End, done, unanswered, UrlEnd, report_from}
+use Rattle.batch_text.specs.Batch.{BatchEntry}
+use Rattle.report_text.specs.Report.{End, done, unanswered, UrlEnd, report_of}
 use Rattle.pac_plan.specs.Plan.{Output}
 use Rattle.pac_plan.specs.declared.status.Status.{Status}
 use Rattle.pac_plan.specs.declared.status.Status.TheVariants as status
@@ -25,5 +26,5 @@ status_of ends =
     if list_any (λ e. is_unanswered e.end) ends then status.Unanswered
     else (if list_any (λ e. is_fault e.end) ends then status.ScriptFault else status.Good)
 
-abbrev pub reported : List (List ℕ) → List UrlEnd → Output
-reported urls ends = record { status = status_of ends; text = report_from 1 urls ends }
+abbrev pub reported : List BatchEntry → List UrlEnd → Output
+reported batch ends = record { status = status_of ends; text = report_of batch ends }

@@ -1,6 +1,7 @@
 -- A script for URLs, over a link: what is reported when each of them has ended, by the log.
 use Rattle.std.specs.Prelude.{List, Option, Some, None, map}
 use Rattle.js_host.specs.Answers.{AnswerMap, Name}
+use Rattle.batch_text.specs.Batch.{BatchEntry}
 use Rattle.js_evaluation.specs.Evaluation.{Entry, Outcome}
 use Rattle.poll_log.specs.declared.terms.Terms.{Terms}
 use Rattle.poll_log.specs.Turns.{Turns, turns_of}
@@ -41,8 +42,8 @@ abbrev pub all_ended : Resolved → Completion → Terms → Turns → List Entr
 all_ended program complete terms turns entries =
     map (ended program (complete.answers terms turns) terms turns) entries
 
--- polls for all of them, and reports by the log
-abbrev pub resolve_plan : Completion → Asking → Resolved → List Entry → Plan Talk
-resolve_plan complete asking program entries =
+-- polls for all of them, and reports by the log of the batch, for whose URLs these runs are
+abbrev pub resolve_plan : Completion → Asking → Resolved → List BatchEntry → List Entry → Plan Talk
+resolve_plan complete asking program batch entries =
     talk (talk_of asking (map (url_job program) entries))
-    (λ log. reported (map (λ e. e.url) entries) (all_ended program complete asking.terms (turns_of log) entries))
+    (λ log. reported batch (all_ended program complete asking.terms (turns_of log) entries))

@@ -5,12 +5,14 @@ ghost use Rattle.pac_plan.specs.Plan.{Outside};
 ghost use Rattle.pac_plan.specs.Follows.{Follows};
 ghost use Rattle.pac_plan.specs.OutputView.{made};
 ghost use Rattle.pac_ask.specs.Talks.{talks};
+ghost use Rattle.batch_text.specs.Batch.{entry_seen};
 ghost use Rattle.report_text.specs.Report.{seen_end};
 ghost use Rattle.url_runs.specs.Runs.{outcome_of, program_of};
 ghost use Rattle.url_runs.specs.Mapping as plan;
 
 use crate::reports::reported;
 use answer_table::AnswerTable;
+use batch_text::Batch;
 use js_interp::{Entry, Outcome, RunAnswer, run};
 use js_scope::Program;
 use pac_plan::Output;
@@ -19,28 +21,23 @@ use std::alloc::Global;
 use std::sync::ledger::Ledger;
 use step_counter::Steps;
 use tracing_host::MapHost;
-use utf16_text::{Memory, Text};
+use utf16_text::Memory;
 
-/// Runs a script once for each URL, in their order, and reports. A name that the answers don't hold has no address.
+/// Runs a script once for each URL of a batch, in their order, and reports. The entries are what the runs are for. A
+/// name that the answers don't hold has no address.
 pub fn map_urls<L: Ledger>(
     alloc: Global,
     program: &Program,
+    batch: &Batch,
     entries: Vec<Entry>,
     answers: &AnswerTable,
     runs: &mut Steps<L>,
 ) -> Result<Output, Memory>
-    ensures { (o : Outside) → Follows talks (plan.map_plan (program_of program.now) answers.now (map entry_of entries.items))
+    ensures { (o : Outside) → Follows talks (plan.map_plan (program_of program.now) answers.now (map entry_seen batch.now) (map entry_of entries.items))
         (record o { runs = runs.old }) (record o { runs = runs.new }) (made result) }
 {
-    let Mapped { urls, ends } = run_each(alloc, program, entries, answers, runs)?;
-    reported(alloc, &urls, &ends)
-}
-
-/// URLs, as the script saw them, and their ends.
-#[derive(Drop)]
-struct Mapped {
-    urls: Vec<Text>,
-    ends: Vec<UrlEnd>,
+    let ends = run_each(alloc, program, entries, answers, runs)?;
+    reported(alloc, batch, &ends)
 }
 
 /// Runs a script once for each URL.
@@ -50,23 +47,20 @@ fn run_each<L: Ledger>(
     entries: Vec<Entry>,
     answers: &AnswerTable,
     runs: &mut Steps<L>,
-) -> Result<Mapped, Memory>
-    ensures urls { IfOk result (λ mapped. mapped.urls.items ≡ map (λ e. e.url) (map entry_of entries.items)) }
-    ensures ends { IfOk result (λ mapped. map seen_end mapped.ends.items ≡ map (plan.mapped (program_of program.now) answers.now) (map entry_of entries.items)) }
+) -> Result<Vec<UrlEnd>, Memory>
+    ensures ends { IfOk result (λ ends. map seen_end ends.items ≡ map (plan.mapped (program_of program.now) answers.now) (map entry_of entries.items)) }
     ensures ran { OnOk result (runs.new ≡ runs.old + length entries.items) }
     ensures memory { OnErr result ((done : ℕ) × (done ≤ length entries.items) × (runs.new ≡ runs.old + done)) }
 {
-    let mut urls = Vec::new(alloc);
     let mut ends = Vec::new(alloc);
     for entry in entries {
         let outcome = run_against(alloc, program, &entry, answers, runs)?;
-        urls.push(entry.url)?;
         ends.push(UrlEnd {
             end: End::Done(outcome),
             runs: 1,
         })?;
     }
-    Ok(Mapped { urls, ends })
+    Ok(ends)
 }
 
 /// The outcome of one run.

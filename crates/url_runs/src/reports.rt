@@ -1,22 +1,24 @@
-// The report of all URLs, and its status.
+// The report of a batch, and its status.
 ghost use Rattle.std.specs.Prelude.{◌≡◌, IfOk, map};
 ghost use Rattle.std.specs.List.{list_any};
 ghost use Rattle.pac_plan.specs.Follows.{IsUnlessMemory};
 ghost use Rattle.pac_plan.specs.OutputView.{made};
+ghost use Rattle.batch_text.specs.Batch.{entry_seen};
 ghost use Rattle.report_text.specs.Report.{seen, seen_end};
 ghost use Rattle.url_runs.specs.Reports as spec;
 
+use batch_text::Batch;
 use js_interp::Ending;
 use pac_plan::{Output, Status};
 use report_text::{End, UrlEnd, report};
 use std::alloc::Global;
-use utf16_text::{Memory, Text};
+use utf16_text::Memory;
 
-/// The report of URLs, as the script saw them, each with its end, in their order.
-pub(crate) fn reported(alloc: Global, urls: &[Text], ends: &[UrlEnd]) -> Result<Output, Memory>
-    ensures { IsUnlessMemory (spec.reported urls.now (map seen_end ends.now)) (made result) }
+/// The report of a batch, whose URLs end so, in their order.
+pub(crate) fn reported(alloc: Global, batch: &Batch, ends: &[UrlEnd]) -> Result<Output, Memory>
+    ensures { IsUnlessMemory (spec.reported (map entry_seen batch.now) (map seen_end ends.now)) (made result) }
 {
-    let text = report(alloc, urls, ends)?;
+    let text = report(alloc, batch, ends)?;
     Ok(Output {
         status: status_of(ends),
         text,

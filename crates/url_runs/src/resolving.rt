@@ -6,15 +6,17 @@ ghost use Rattle.pac_plan.specs.Plan.{Outside};
 ghost use Rattle.pac_plan.specs.Follows.{Follows, IsUnlessMemory};
 ghost use Rattle.pac_plan.specs.OutputView.{made};
 ghost use Rattle.pac_ask.specs.Talks.{talks};
+ghost use Rattle.batch_text.specs.Batch.{entry_seen};
 ghost use Rattle.report_text.specs.Report.{seen, seen_end};
 ghost use Rattle.url_runs.specs.Runs.{program_of, seen_for, seen_run};
-ghost use Rattle.url_runs.specs.Ends.{end_of, session_end, url_of};
+ghost use Rattle.url_runs.specs.Ends.{end_of, session_end};
 ghost use Rattle.url_runs.specs.Reports as spec;
 ghost use Rattle.url_runs.specs.Resolving as plan;
 ghost use Rattle.url_runs.specs.Resolving.{Completion};
 
 use crate::UrlRun;
 use crate::reports::reported;
+use batch_text::Batch;
 use js_interp::{Entry, Outcome};
 use js_scope::Program;
 use pac_plan::{Output, Status, line};
@@ -27,11 +29,12 @@ use std::sync::ledger::Ledger;
 use step_counter::Steps;
 use utf16_text::Memory;
 
-/// Runs a script for all URLs at once, asks the server for the names that the runs miss, and reports when each URL has
-/// ended: with its outcome, or with a name that nobody answered.
+/// Runs a script for all URLs of a batch at once, asks the server for the names that the runs miss, and reports when
+/// each URL has ended: with its outcome, or with a name that nobody answered. The entries are what the runs are for.
 pub fn resolve_urls<N: Link, D: Dice, L: Ledger>(
     alloc: Global,
     program: &Program,
+    batch: &Batch,
     entries: Vec<Entry>,
     asking: Asking,
     link: &mut N,
@@ -39,13 +42,13 @@ pub fn resolve_urls<N: Link, D: Dice, L: Ledger>(
     runs: &mut Steps<L>,
 ) -> Result<Output, Memory>
     requires { AreTerms asking.terms }
-    ensures { (complete : Completion) (o : Outside) → Follows talks (plan.resolve_plan complete asking (program_of program.now) (map entry_of entries.items))
+    ensures { (complete : Completion) (o : Outside) → Follows talks (plan.resolve_plan complete asking (program_of program.now) (map entry_seen batch.now) (map entry_of entries.items))
         (record o { link = N.state link.old; dice = D.told dice.old; runs = runs.old })
         (record o { link = N.state link.new; dice = D.told dice.new; runs = runs.new }) (made result) }
 {
     let all = runs_for(alloc, program, entries)?;
     match run_all(alloc, all, asking, link, dice, runs) {
-        Ok(sessions) => report_of(alloc, sessions),
+        Ok(sessions) => report_of(alloc, batch, sessions),
         Err(Stop::Link) => line(alloc, Status::LinkFault, "fault link", "", ""),
         Err(Stop::Memory) => Err(Memory),
     }
@@ -65,25 +68,23 @@ fn runs_for<'p>(
     Ok(all)
 }
 
-/// The report of sessions that have ended.
+/// The report of a batch whose sessions have ended.
 fn report_of<'p>(
     alloc: Global,
+    batch: &Batch,
     sessions: Vec<Session<UrlRun<'p>, Outcome>>,
 ) -> Result<Output, Memory>
-    ensures { IsUnlessMemory (spec.reported (map url_of sessions.entry.items) (map session_end sessions.entry.items)) (made result) }
+    ensures { IsUnlessMemory (spec.reported (map entry_seen batch.now) (map session_end sessions.entry.items)) (made result) }
 {
-    let mut urls = Vec::new(alloc);
     let mut ends = Vec::new(alloc);
     for session in sessions {
-        let Session { run, state, runs } = session;
-        let UrlRun { entry, .. } = run;
-        urls.push(entry.url)?;
+        let Session { state, runs, .. } = session;
         ends.push(UrlEnd {
             end: end_of(state),
             runs,
         })?;
     }
-    reported(alloc, &urls, &ends)
+    reported(alloc, batch, &ends)
 }
 
 /// How a session ended.

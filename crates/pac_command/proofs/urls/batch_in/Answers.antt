@@ -1,11 +1,7 @@
 use Rattle.pac_plan.proofs.GivesUp.{gives_up}
 use Rattle.pac_ask.specs.Talks.{talks}
 use Rattle.pac_command.specs.Urls.{batch_then}
-use Rattle.pac_command.proofs.Stepping.{no_entries}
 use Rattle.pac_command.proofs.urls.batch_in.Goals as goal
-
-pub returns-in_err-entries_for-in-Ok : goal.returns-in_err-entries_for-in-Ok
-returns-in_err-entries_for-in-Ok c = λ o. no_entries (batch_then c.args.given.now c.args.bytes.now) o c.from_residual.result c.from_residual.ensures.1
 
 -- for want of memory
 pub returns-in-Err-Memory : goal.returns-in-Err-Memory

@@ -1,10 +1,11 @@
-use Rattle.std.proofs.Common.{◌≡◌, ◌+◌, ◌++◌, drop}
+use Rattle.std.proofs.Common.{◌≤◌, ◌+◌, drop}
 use Rattle.std.specs.Prelude.{map}
-use Rattle.report_text.specs.Report.{report_from, seen_end}
+use Rattle.batch_text.specs.Batch.{entry_seen}
+use Rattle.report_text.specs.Report.{report_of, seen_end}
+use Rattle.report_text.proofs.Steps.{Stands}
 use Rattle.report_text.proofs.blocks.report.Given as goal
 
--- what is written, with the report of the URLs that are left, is the whole report
-abbrev pub invariant-loop-url : goal.invariant-loop-url
-invariant-loop-url l =
-    (l.number ≡ l.url-index + 1)
-    × (l.out.items ++ report_from l.number (drop l.url-index l.urls) (map seen_end l.left) ≡ report_from 1 l.urls (map seen_end l.ends))
+abbrev pub invariant-loop-line : goal.invariant-loop-line
+invariant-loop-line l =
+    (l.number ≤ l.line-index + 1)
+    × Stands l.number l.out.items l.proxies (map entry_seen (drop l.line-index l.batch)) (map seen_end l.left) (report_of (map entry_seen l.batch) (map seen_end l.ends))

@@ -1,5 +1,6 @@
 use Rattle.std.proofs.Common.{List, refl, subst, map}
 use Rattle.js_interp.specs.Answers.{entry_of}
+use Rattle.batch_text.specs.Batch.{entry_seen}
 use Rattle.pac_plan.specs.Plan.{Outside, Output, faulted, unfinished, whole}
 use Rattle.pac_plan.specs.Follows.{IsUnlessMemory}
 use Rattle.pac_plan.specs.OutputView.{made}
@@ -16,7 +17,7 @@ use Rattle.url_runs.proofs.Ending.{jobs_are, reported_are}
 use Rattle.url_runs.proofs.resolving.resolve_urls.Goals as goal
 
 pub returns-in_err-all : goal.returns-in_err-all
-returns-in_err-all g c = λ complete o. rw (none_made _ c.from_residual.result c.from_residual.ensures.1) (gives_up talks (resolve_plan complete c.args.asking (program_of c.args.program.now) (map entry_of c.args.entries.items)) _)
+returns-in_err-all g c = λ complete o. rw (none_made _ c.from_residual.result c.from_residual.ensures.1) (gives_up talks (resolve_plan complete c.args.asking (program_of c.args.program.now) (map entry_seen c.args.batch.now) (map entry_of c.args.entries.items)) _)
 
 pub returns-in-Ok : goal.returns-in-Ok
 returns-in-Ok g c = λ complete o.
@@ -30,7 +31,7 @@ returns-in-Ok g c = λ complete o.
       subst (λ (jobs : List Job). Talked (talk_of c.args.asking jobs) old whole ended.0 new) (jobs_are script c.args.entries.items c.in_ok-all.all.items c.in_ok-all.ensures) ended.1,
       subst (λ (output : Output). IsUnlessMemory output (made c.report_of.result))
           (reported_are script c.args.asking.terms turns (complete.answers c.args.asking.terms turns) (complete.agrees c.args.asking.terms turns)
-          c.args.entries.items c.in_ok-all.all.items c.in-Ok.sessions.items c.in_ok-all.ensures ended.2)
+          (map entry_seen c.args.batch.now) c.args.entries.items c.in_ok-all.all.items c.in-Ok.sessions.items c.in_ok-all.ensures ended.2)
           c.report_of.ensures,
     )
 
