@@ -15,6 +15,7 @@ use Rattle.heap_objects.specs.Object.{property_after, value_property}
 use Rattle.object_heap.specs.Fresh.{built_in_number}
 use Rattle.object_heap.specs.Heap.{object_at, length_of, found_of, made_of, stored, deleted_of}
 use Rattle.array_builtins.specs.Steps.{then_on, steps, steps_down}
+use Rattle.object_heap.specs.declared.limits.TheConstants.{LONGEST_ARRAY}
 
 -- `Array.prototype`
 abbrev pub array_prototype : ObjectId
@@ -56,7 +57,7 @@ without h array name = (deleted_of h array name).1
 
 -- an array with this length; one over 100,000 is refused whatever the object is
 abbrev pub length_set : HeapView → ObjectId → ℕ → Result HeapView HeapAnswer
-length_set h array n = if nat_lt 100000 n then Err answer.ArrayTooLong
+length_set h array n = if nat_lt LONGEST_ARRAY n then Err answer.ArrayTooLong
     else put h array (codes "length") (Number (pos n))
 
 -- without the element of this name, and with this length

@@ -3,6 +3,7 @@ use Rattle.std.specs.Prelude.{ℕ, List, [], ◌∷◌, ◌++◌, Result, Ok, Er
 use Rattle.std.specs.List.{flat_map}
 use Rattle.array_builtins.specs.declared.joining.JoinAnswer.{JoinAnswer}
 use Rattle.array_builtins.specs.declared.joining.JoinAnswer.TheVariants.{TooLong}
+use Rattle.utf16_text.specs.declared.limits.TheConstants.{LONGEST_TEXT}
 
 -- a text, and behind it others, each behind a separator
 abbrev pub joined_behind : List ℕ → List ℕ → List (List ℕ) → List ℕ
@@ -14,7 +15,7 @@ joined separator (t ∷ ts) = joined_behind separator t ts
 
 -- the joined text, where it isn't too long
 abbrev pub made_text : List ℕ → Result (List ℕ) JoinAnswer
-made_text us = if nat_lt 262144 (length us) then Err TooLong else Ok us
+made_text us = if nat_lt LONGEST_TEXT (length us) then Err TooLong else Ok us
 
 abbrev pub join_result : List ℕ → List (List ℕ) → Result (List ℕ) JoinAnswer
 join_result separator texts = made_text (joined separator texts)

@@ -13,6 +13,7 @@ use Rattle.object_heap.specs.Heap.{object_at, kind_in}
 use Rattle.array_builtins.specs.Arguments.{first_number, second_number, place_or}
 use Rattle.array_builtins.specs.Steps.{then_on, steps, giving}
 use Rattle.array_builtins.specs.Elements.{array_made, size_of, element, defined}
+use Rattle.object_heap.specs.declared.limits.TheConstants.{LONGEST_ARRAY}
 
 -- an element defined in a new array, where it is there
 abbrev pub defined_if : HeapView → ObjectId → List ℕ → Option Value → Result HeapView HeapAnswer
@@ -55,7 +56,7 @@ array_in h _ = None
 
 -- the place behind so many more; from 100,000 on no place of an array takes an element, and 100,000 stands for them all
 abbrev pub place_behind : ℕ → ℕ → ℕ
-place_behind at count = min (at + count) 100000
+place_behind at count = min (at + count) LONGEST_ARRAY
 
 -- an item at a place of a new array, of an array its elements from there on, and the place behind
 abbrev pub appended_as : HeapView → ObjectId → ℕ → Value → Option ObjectId → Result (ℕ × HeapView) HeapAnswer

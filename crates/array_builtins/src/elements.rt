@@ -16,15 +16,14 @@ ghost use Rattle.array_builtins.specs.Elements.{
   value_found,
   without,
 };
+ghost use Rattle.object_heap.specs.declared.limits.TheConstants.{LONGEST_ARRAY};
 
 use heap_values::{BuiltIn, Found, HeapAnswer, Kind, ObjectId, Value};
 use itoa::Buffer;
-use object_heap::Heap;
+use object_heap::{Heap, LONGEST_ARRAY};
 use std::alloc::Global;
 use utf16_text::{Memory, Text};
 use whole_number::Whole;
-
-const LONGEST_ARRAY: u64 = 100_000;
 
 // The name of the element at a place.
 fn index_name(alloc: Global, at: u64) -> Result<Text, Memory>
@@ -126,9 +125,9 @@ pub fn set_length(
 ) -> Result<(), HeapAnswer>
     ensures ok { OnOk result (length_set heap.old array length ≡ Ok heap.new) }
     ensures err { IfErr result (λ e. (e ≡ HeapAnswer.Memory) ⊎ (length_set heap.old array length ≡ Err e)) }
-    ensures within { OnOk result (length ≤ 100000) }
+    ensures within { OnOk result (length ≤ LONGEST_ARRAY) }
 {
-    if length > LONGEST_ARRAY {
+    if length > LONGEST_ARRAY as u64 {
         return Err(HeapAnswer::ArrayTooLong);
     }
     let name = Text::from_latin_1(alloc, b"length")?;

@@ -1,13 +1,11 @@
 // Texts with a separator between them.
-ghost use Rattle.std.specs.Prelude.{◌≡◌, ◌⊎◌, IfOk, IfErr, Ok, Err, length, min};
+ghost use Rattle.std.specs.Prelude.{◌≡◌, ◌⊎◌, IfOk, IfErr, Ok, Err, length, min, ◌+◌};
 ghost use Rattle.array_builtins.specs.Joining.{join_result, joined_behind};
+ghost use Rattle.utf16_text.specs.declared.limits.TheConstants.{LONGEST_TEXT};
 
 use std::alloc::Global;
 use thiserror::Error;
-use utf16_text::{Memory, Text, TextList};
-
-/// The most units that a text may have.
-const LIMIT: usize = 262144;
+use utf16_text::{LONGEST_TEXT, Memory, Text, TextList};
 
 /// Why texts are not joined.
 #[derive(Clone, Copy, Debug, PartialEq, Eq, Error)]
@@ -41,7 +39,7 @@ pub fn join_texts(alloc: Global, texts: &TextList, separator: &Text) -> Result<T
         return Ok(Text::from_units(alloc, &[])?);
     };
     let length = joined_length(first, rest, separator);
-    if length > LIMIT {
+    if length > LONGEST_TEXT {
         return Err(JoinAnswer::TooLong);
     }
     Ok(joined(alloc, first, rest, separator, length)?)
@@ -49,12 +47,12 @@ pub fn join_texts(alloc: Global, texts: &TextList, separator: &Text) -> Result<T
 
 // The number of units of all, or one more than the limit where they are more.
 fn joined_length(first: &Text, rest: &[Text], separator: &Text) -> usize
-    ensures { result ≡ min (length (joined_behind separator.now first.now rest.now)) 262145 }
+    ensures { result ≡ min (length (joined_behind separator.now first.now rest.now)) (LONGEST_TEXT + 1) }
 {
-    let gap = separator.len().min(LIMIT + 1);
-    let mut length = first.len().min(LIMIT + 1);
+    let gap = separator.len().min(LONGEST_TEXT + 1);
+    let mut length = first.len().min(LONGEST_TEXT + 1);
     for text in rest {
-        length = (length + gap + text.len().min(LIMIT + 1)).min(LIMIT + 1);
+        length = (length + gap + text.len().min(LONGEST_TEXT + 1)).min(LONGEST_TEXT + 1);
     }
     length
 }

@@ -11,15 +11,16 @@ ghost use Rattle.array_builtins.specs.Parts.{
   place_behind,
   slice_of,
 };
+ghost use Rattle.object_heap.specs.declared.limits.TheConstants.{LONGEST_ARRAY};
 
 use crate::arguments::{first_number, place, second_number};
 use crate::elements::{define_element, element, make_array};
 use heap_values::{HeapAnswer, Kind, ObjectId, Value};
-use object_heap::Heap;
+use object_heap::{Heap, LONGEST_ARRAY};
 use std::alloc::Global;
 
 /// A place that stands for each at which an array takes no element.
-const END: u64 = 100_000;
+const END: u64 = LONGEST_ARRAY as u64;
 
 /// `slice`: a new array of the elements from one place up to and without another (15.4.4.10).
 pub fn slice(
@@ -100,7 +101,7 @@ fn append_all(
     from: u64,
     items: &[Value],
 ) -> Result<(), HeapAnswer>
-    requires { from ≤ 100000 }
+    requires { from ≤ LONGEST_ARRAY }
     ensures ok { OnOk result (all_appended heap.old into from items.now ≡ Ok heap.new) }
     ensures err { IfErr result (λ e. (e ≡ HeapAnswer.Memory) ⊎ (all_appended heap.old into from items.now ≡ Err e)) }
 {
@@ -121,10 +122,10 @@ fn append(
     at: u64,
     item: &Value,
 ) -> Result<u64, HeapAnswer>
-    requires { at ≤ 100000 }
+    requires { at ≤ LONGEST_ARRAY }
     ensures ok { IfOk result (λ behind. appended heap.old into at item.now ≡ Ok (behind, heap.new)) }
     ensures err { IfErr result (λ e. (e ≡ HeapAnswer.Memory) ⊎ (appended heap.old into at item.now ≡ Err e)) }
-    ensures within { IfOk result (λ behind. behind ≤ 100000) }
+    ensures within { IfOk result (λ behind. behind ≤ LONGEST_ARRAY) }
 {
     match array_of(heap, item) {
         None => {
@@ -161,10 +162,10 @@ fn is_array(kind: Kind) -> bool
 }
 
 fn behind(at: u64, count: u64) -> u64
-    requires at_fits { at ≤ 100000 }
+    requires at_fits { at ≤ LONGEST_ARRAY }
     requires count_fits { count ≤ 4294967295 }
     ensures place { result ≡ place_behind at count }
-    ensures within { result ≤ 100000 }
+    ensures within { result ≤ LONGEST_ARRAY }
 {
     (at + count).min(END)
 }

@@ -5,6 +5,7 @@ use Rattle.std.specs.Map.{lookup}
 use Rattle.proxy_list.specs.declared.proxy.Proxy.{Proxy}
 use Rattle.proxy_list.specs.Proxies.{is_direct}
 use Rattle.proxy_list.specs.contracts.proxy.ProxyOrd.TheImpl as order
+use Rattle.bad_proxy_table.specs.declared.table.TheConstants.{RETRY_SECONDS}
 
 -- what is reported of a proxy at a moment in seconds
 pub data Report : Type 0 where
@@ -21,10 +22,10 @@ last_failure [] proxy = None
 last_failure (Failed other moment ∷ before) proxy = if same_proxy other proxy then Some moment else last_failure before proxy
 last_failure (Worked other moment ∷ before) proxy = if same_proxy other proxy then None else last_failure before proxy
 
--- a failure counts for 300 seconds
+-- a failure counts for so many seconds
 abbrev pub is_recent : Option ℤ → ℤ → Bool
 is_recent None moment = false
-is_recent (Some failed) moment = int_le failed moment && int_lt (moment -ℤ failed) (pos 300)
+is_recent (Some failed) moment = int_le failed moment && int_lt (moment -ℤ failed) RETRY_SECONDS
 
 -- a proxy is bad by its failure while that counts; no proxy never is bad
 abbrev pub is_bad_by : Option ℤ → Proxy → ℤ → Bool

@@ -6,4 +6,4 @@
 
 mod table;
 
-pub use table::BadTable;
+pub use table::{BadTable, RETRY_SECONDS};

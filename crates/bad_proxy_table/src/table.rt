@@ -10,7 +10,7 @@ use std::marker::Model;
 use utf16_text::Memory;
 
 /// For how many seconds a failure counts.
-const RETRY_SECONDS: i64 = 300;
+pub const RETRY_SECONDS: i64 = 300;
 
 /// What was reported of proxies, seen as a list of those whose last report is a failure, each with its moment in seconds.
 #[derive(Drop)]

@@ -16,6 +16,8 @@ use Rattle.batch_text.specs.View.{Seen, seen_of, view_of}
 use Rattle.proxy_list.specs.declared.proxy.Proxy.{Proxy}
 use Rattle.proxy_list.specs.Proxies.{entry_of, is_direct, lower}
 use Rattle.utf16_text.specs.Decode.{utf16_units}
+use Rattle.batch_text.specs.declared.batch.TheConstants.{MOST_URLS}
+use Rattle.pac_calendar.specs.declared.showing.TheConstants.{LAST_MOMENT}
 
 -- at a moment in seconds since 1970 in UTC: a URL, as scripts see it, is asked about, or a proxy failed, or worked
 pub data BatchEntry : Type 0 where
@@ -42,7 +44,7 @@ is_number text = nat_le 1 (length text) && nat_le (length text) 20 && list_all i
 -- the moment that digits write, up to the end of the year 9998
 abbrev pub moment_of : List ℕ → Option ℤ
 moment_of text =
-    if is_number text && nat_le (digits_value 10 text) 253370764799 then Some (pos (digits_value 10 text)) else None
+    if is_number text && nat_le (digits_value 10 text) LAST_MOMENT then Some (pos (digits_value 10 text)) else None
 
 abbrev pub at_line : Option ℤ → BatchSaid
 at_line (Some moment) = At moment
@@ -107,7 +109,7 @@ goes_back (Some earlier) begun moment = int_lt moment earlier
 goes_back None begun moment = begun
 
 abbrev pub get_refusal : ℕ → Option Seen → Option BatchKind
-get_refusal gets seen = if nat_le 256 gets then Some TooMany else (if is_some seen then None else Some BadUrl)
+get_refusal gets seen = if nat_le MOST_URLS gets then Some TooMany else (if is_some seen then None else Some BadUrl)
 
 -- why a line is refused, by the moment that is named before it, whether a line before it is at a moment, and the number of
 -- URLs before it

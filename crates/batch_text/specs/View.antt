@@ -11,6 +11,7 @@ use Rattle.url.specs.Parser.{Parsed, parse_url}
 use Rattle.batch_text.specs.declared.seen.View.{View}
 use Rattle.batch_text.specs.declared.seen.ViewAnswer.{ViewAnswer}
 use Rattle.batch_text.specs.declared.seen.ViewAnswer.TheVariants.{BadUrl, Memory}
+use Rattle.batch_text.specs.declared.urls.TheConstants.{LONGEST_URL}
 
 -- the schemes that a script is asked about
 unfoldable pub is_served : List ℕ → Bool
@@ -67,9 +68,9 @@ abbrev pub seen_if_parsed : Parsed Parts → Option Seen
 seen_if_parsed (Ok url) = seen_by_scripts url
 seen_if_parsed (Err e) = None
 
--- what a script sees of the URL that a text of at most 8,192 bytes spells
+-- what a script sees of the URL that a text that isn't too long spells
 abbrev pub view_of : List ℕ → Option Seen
-view_of text = if nat_lt 8192 (length text) then None else seen_if_parsed (parse_url None text)
+view_of text = if nat_lt LONGEST_URL (length text) then None else seen_if_parsed (parse_url None text)
 
 abbrev pub Views : Result View ViewAnswer → Option Seen → Type 0
 Views (Ok view) seen = seen ≡ Some (seen_of view)

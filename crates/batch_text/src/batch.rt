@@ -22,20 +22,19 @@ ghost use Rattle.batch_text.specs.Batch.{
   proxy_of,
 };
 ghost use Rattle.batch_text.specs.BatchEntering.{EntersBatch, is_begun, said};
+ghost use Rattle.utf16_text.specs.declared.limits.TheConstants.{LONGEST_FILE};
 
 use crate::lines::{rest, says_nothing, text_of, word};
 use crate::seen::{View, ViewAnswer};
 use crate::urls::view;
 use bstr::ByteSlice;
+use pac_calendar::LAST_MOMENT;
 use proxy_list::{Proxy, parse_entry};
 use std::alloc::Global;
 use utf16_text::{List, Memory, Text};
 
 /// The most URLs of a batch.
-const MOST_URLS: usize = 256;
-
-/// The end of the year 9998, in seconds since 1970 in UTC.
-const LAST_MOMENT: i64 = 253_370_764_799;
+pub const MOST_URLS: usize = 256;
 
 /// One line of a batch that asks or tells something at a moment, in seconds since 1970 in UTC.
 #[derive(Drop)]
@@ -109,7 +108,7 @@ struct Reading {
 /// `fail` or `good` and an entry of a proxy list other than `DIRECT`; one that is blank or begins with `#` says nothing.
 /// Before the first line `at` the moment is `start`.
 pub fn read_batch(alloc: Global, bytes: &[u8], start: i64) -> Result<Batch, BatchAnswer>
-    requires { length bytes.now ≤ 1048576 }
+    requires { length bytes.now ≤ LONGEST_FILE }
     ensures { ReadsBatch result (batch_in start bytes.now) }
 {
     let mut reading = Reading {
@@ -287,7 +286,7 @@ fn moment_of(digits: &str) -> Option<i64>
         return None;
     }
     match digits.parse::<i64>() {
-        Ok(moment) if moment <= LAST_MOMENT => Some(moment),
+        Ok(moment) if moment <= LAST_MOMENT as i64 => Some(moment),
         _ => None,
     }
 }

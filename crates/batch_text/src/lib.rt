@@ -10,7 +10,7 @@ mod names;
 mod seen;
 mod urls;
 
-pub use batch::{Batch, BatchAnswer, BatchKind, BatchLine, read_batch};
+pub use batch::{Batch, BatchAnswer, BatchKind, BatchLine, MOST_URLS, read_batch};
 pub use names::{NamesAnswer, NamesKind, read_names};
 pub use seen::{View, ViewAnswer};
-pub use urls::view;
+pub use urls::{LONGEST_URL, view};

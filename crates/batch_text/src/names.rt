@@ -3,6 +3,7 @@ ghost use Rattle.std.specs.Prelude.{◌≡◌, ◌≤◌, IfOk, length};
 ghost use Rattle.pac_names.specs.Names.{lookup_name_of};
 ghost use Rattle.batch_text.specs.Names.{ReadsNames, names_in, answer_of, line_of, text_line};
 ghost use Rattle.batch_text.specs.Entering.{Enters, said};
+ghost use Rattle.utf16_text.specs.declared.limits.TheConstants.{LONGEST_FILE};
 
 use crate::lines::{rest, says_nothing, text_of, word};
 use answer_table::AnswerTable;
@@ -50,7 +51,7 @@ enum Line {
 /// The answers that a file tells, in each line a lookup name, blanks, and a dotted quad or `-` for no address. A line
 /// that is blank or begins with `#` says nothing.
 pub fn read_names(alloc: Global, bytes: &[u8]) -> Result<AnswerTable, NamesAnswer>
-    requires { length bytes.now ≤ 1048576 }
+    requires { length bytes.now ≤ LONGEST_FILE }
     ensures { ReadsNames result (names_in bytes.now) }
 {
     let mut table = AnswerTable::new(alloc);

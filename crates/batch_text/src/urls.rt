@@ -22,13 +22,13 @@ use url::{Host, ParseError, Url};
 use utf16_text::Text;
 
 /// The longest URL that is read, in bytes.
-const LONGEST: usize = 8_192;
+pub const LONGEST_URL: usize = 8_192;
 
 /// The view of the URL that a text spells by the URL Standard.
 pub fn view(alloc: Global, text: &str) -> Result<View, ViewAnswer>
     ensures { Views result (view_of text.now) }
 {
-    if text.len() > LONGEST {
+    if text.len() > LONGEST_URL {
         return Err(ViewAnswer::BadUrl);
     }
     match Url::parse(alloc, text) {

@@ -43,14 +43,18 @@ abbrev pub there : List (List ℕ) → ℕ → Option Says → Option RecordTher
 there owner behind None = None
 there owner behind (Some says) = Some (record { fact = record { owner = owner; says = says }; behind = behind })
 
+-- RDLENGTH of the record whose name ends there
+abbrev pub rdlength : List ℕ → ℕ → ℕ
+rdlength message behind = number_at message (behind + 8)
+
 -- TYPE, CLASS, TTL and RDLENGTH take ten octets, RDATA as many as RDLENGTH says; all stand whole in the message
 abbrev pub record_from : List ℕ → Option WireName → Option RecordThere
 record_from message None = None
 record_from message (Some name) =
     if nat_le (name.behind + 10) (length message)
-    then (if nat_le (name.behind + 10 + number_at message (name.behind + 8)) (length message)
-    then there (lowered name.labels) (name.behind + 10 + number_at message (name.behind + 8))
-    (says_of message (number_at message name.behind) (number_at message (name.behind + 2)) (name.behind + 10) (number_at message (name.behind + 8)))
+    then (if nat_le (name.behind + 10 + rdlength message name.behind) (length message)
+    then there (lowered name.labels) (name.behind + 10 + rdlength message name.behind)
+    (says_of message (number_at message name.behind) (number_at message (name.behind + 2)) (name.behind + 10) (rdlength message name.behind))
     else None)
     else None
 

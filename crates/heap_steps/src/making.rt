@@ -3,6 +3,7 @@ ghost use Rattle.std.specs.Prelude.{Some, true, ◌≤◌, length, OnOk};
 ghost use Rattle.std.specs.Fmt.{decimal};
 ghost use Rattle.js_evaluation.specs.State as spec;
 ghost use Rattle.heap_steps.specs.Works.{Tests, Works};
+ghost use Rattle.utf16_text.specs.declared.limits.TheConstants.{LONGEST_TEXT};
 
 use crate::{Halt, refused};
 use heap_values::{BuiltIn, Kind, ObjectId, ScopeId, Value};
@@ -10,10 +11,7 @@ use js_evaluation::FaultCode;
 use js_tree::Place;
 use object_heap::{Heap, Marks};
 use std::alloc::Global;
-use utf16_text::Text;
-
-/// The most units of a text that is a value.
-const LONGEST_TEXT: usize = 262_144;
+use utf16_text::{LONGEST_TEXT, Text};
 
 /// Makes an object.
 pub fn make(
@@ -125,7 +123,7 @@ pub fn spend(heap: &mut Heap, text: &Text, place: Place) -> Result<(), Halt>
 /// A text that becomes a value and isn't counted must be short enough.
 pub fn test_text(text: &Text, place: Place) -> Result<(), Halt>
     ensures tests { Tests (spec.test_text text.now place) result }
-    ensures short { OnOk result (length text.now ≤ 262144) }
+    ensures short { OnOk result (length text.now ≤ LONGEST_TEXT) }
 {
     if text.len() > LONGEST_TEXT {
         return Err(Halt::Fault {

@@ -10,10 +10,11 @@ use Rattle.heap_values.specs.declared.value.Value.TheVariants as value
 use Rattle.js_convert.specs.declared.numeric.Numeric.{Numeric}
 use Rattle.js_convert.specs.declared.numeric.Numeric.TheVariants.{Whole, NotANumber, Fraction, Range}
 use Rattle.js_convert.specs.Units.{is_empty, are_digits, are_hexadecimal, behind_digits}
+use Rattle.whole_number.specs.declared.whole.TheConstants.{LARGEST}
 
 -- the number, or Range where it is over 2^53 - 1
 abbrev pub bounded : ℕ → Numeric
-bounded n = if nat_le n 9007199254740991 then Whole (pos n) else Range
+bounded n = if nat_le n LARGEST then Whole (pos n) else Range
 
 abbrev pub is_sign : ℕ → Bool
 is_sign u = nat_eq u 43 || nat_eq u 45

@@ -15,7 +15,7 @@ use Rattle.object_heap.specs.Fresh.{fresh_heap}
 use Rattle.object_heap.specs.Heap.{object_at, kind_in, found_of}
 use Rattle.js_convert.specs.Texts.{text_of}
 use Rattle.js_host.specs.Answers.{Name, AnswerMap}
-use Rattle.js_host.specs.Seen.{kept_alerts, most_units}
+use Rattle.js_host.specs.Seen.{kept_alerts}
 use Rattle.run_trees.specs.declared.abrupt.Abrupt.TheVariants as ending
 use Rattle.run_trees.specs.RunTree.{RunTree, Done}
 use Rattle.run_trees.specs.Runs.{reading, ◌>>◌}
@@ -32,6 +32,8 @@ use Rattle.js_evaluation.specs.Natives.{joined}
 use Rattle.js_evaluation.specs.Expressions.{expression_place, expression_node, target_node, reference, write}
 use Rattle.js_evaluation.specs.Statements.{statement_place, statement_node, statements_from}
 use Rattle.js_evaluation.specs.Entries.{call_node, construct_node, load_node}
+use Rattle.js_evaluation.specs.declared.limits.TheConstants.{MOST_OPEN}
+use Rattle.js_host.specs.declared.limits.TheConstants.{MOST_UNITS}
 
 -- What can be open: an expression, an expression as a target, a statement, a call, a construction, the load of a
 -- script.
@@ -93,10 +95,6 @@ evaluation functions (suc room) part = charge (part_place part) >> node function
 
 -- ---- a run
 
--- how many parts may be open
-abbrev pub most_open : ℕ
-most_open = 2000
-
 -- what a run is for: the URL and its host as the script sees them, what clocks show, the settings, and the fuel
 pub record Entry : Type 0 where
   pub url : List ℕ
@@ -119,12 +117,12 @@ abbrev pub called_for : List FunctionTree → Entry → Option ObjectId → Does
 called_for functions entry None = fault code.NoEntry outside
 called_for functions entry (Some f) =
     test_text entry.url outside >> test_text entry.host outside
-    >> evaluation functions most_open (call_part f global_object (value.Text entry.url ∷ value.Text entry.host ∷ []) outside)
+    >> evaluation functions MOST_OPEN (call_part f global_object (value.Text entry.url ∷ value.Text entry.host ∷ []) outside)
 
 -- the script is loaded, and then its function `FindProxyForURL` is called with the URL and the host
 abbrev pub script_run : Statements → List FunctionTree → Entry → Does Value
 script_run ss functions entry =
-    evaluation functions most_open (load_part outer_scope ss)
+    evaluation functions MOST_OPEN (load_part outer_scope ss)
     >> reading (λ s. called_for functions entry (entry_of s.heap (found_of s.heap global_id (codes "FindProxyForURL"))))
 
 abbrev pub first_state : Entry → RunState
@@ -162,7 +160,7 @@ abbrev pub not_a_string : Ending
 not_a_string = Fails (record { code = code.NotAString; place = outside; detail = [] })
 
 abbrev pub uncaught : HeapView → Value → Place → Ending
-uncaught h v place = Fails (record { code = code.Uncaught; place = place; detail = take most_units (thrown_text h v) })
+uncaught h v place = Fails (record { code = code.Uncaught; place = place; detail = take MOST_UNITS (thrown_text h v) })
 
 abbrev pub ending_of : RunEnd → Ending
 ending_of (Faults f) = Fails f

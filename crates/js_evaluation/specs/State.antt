@@ -24,6 +24,7 @@ use Rattle.js_evaluation.specs.declared.thrown.Thrown.{Thrown}
 use Rattle.run_trees.specs.declared.abrupt.Abrupt.{Abrupt}
 use Rattle.run_trees.specs.declared.abrupt.Abrupt.TheVariants as ending
 use Rattle.run_trees.specs.Runs.{Run, pure, abrupt, halt, reading, changing, ◌>>=◌, ◌>>◌}
+use Rattle.utf16_text.specs.declared.limits.TheConstants.{LONGEST_TEXT}
 
 -- What a run has of its own: its heap, the fuel that is left, and the base of the reference that was evaluated last
 -- (8.7), which an assignment writes to and a call has as its `this`. And what its script is told of its surroundings,
@@ -109,7 +110,7 @@ spend text place = reading (λ s. changed place (text_spent_of s.heap (length te
 
 -- a text that becomes a value and isn't counted is short enough
 abbrev pub test_text : List ℕ → Place → Does (Unit {0})
-test_text text place = if nat_lt 262144 (length text) then fault code.StringTooLong place else pure tt
+test_text text place = if nat_lt LONGEST_TEXT (length text) then fault code.StringTooLong place else pure tt
 
 abbrev pub built_in_object : BuiltIn → ObjectId
 built_in_object which = record { 0 = built_in_number which }

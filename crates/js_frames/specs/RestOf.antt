@@ -20,7 +20,7 @@ use Rattle.js_evaluation.specs.Natives as native
 use Rattle.js_evaluation.specs.NativeTable as table
 use Rattle.js_evaluation.specs.Expressions as expression
 use Rattle.js_evaluation.specs.Statements as statement
-use Rattle.js_evaluation.specs.Evaluation.{evaluation, most_open}
+use Rattle.js_evaluation.specs.Evaluation.{evaluation}
 use Rattle.js_frames.specs.declared.expression_frame.Aim.{Aim}
 use Rattle.js_frames.specs.declared.expression_frame.Aim.TheVariants as aim
 use Rattle.js_frames.specs.declared.expression_frame.ExpressionFrame.{ExpressionFrame}
@@ -46,6 +46,7 @@ use Rattle.js_frames.specs.declared.wanted.Wanted.TheVariants as wanted
 use Rattle.js_frames.specs.Parts.{context_of, reference_of, names_of}
 use Rattle.js_frames.specs.Rules as rule
 use Rattle.js_frames.specs.Rules.{Within, AfterValue}
+use Rattle.js_evaluation.specs.declared.limits.TheConstants.{MOST_OPEN}
 
 -- functions: those of the script; go: evaluation of the parts within; cx: where the code of the open part runs
 module _ (functions : List FunctionTree) (go : Within) (cx : Context) where
@@ -265,7 +266,7 @@ module _ (functions : List FunctionTree) (go : Within) (cx : Context) where
 
 -- how many parts may still be opened
 abbrev pub room : List Open → ℕ
-room [] = most_open
+room [] = MOST_OPEN
 room (f ∷ fs) = room fs - 1
 
 -- evaluation of the parts within one that is open on these

@@ -18,17 +18,15 @@ ghost use Rattle.std.specs.Prelude.{
   slice_get,
   ◌↔◌,
 };
-ghost use Rattle.js_evaluation.specs.Evaluation.{most_open};
 ghost use Rattle.js_frames.specs.RestOf.{room};
 ghost use Rattle.js_frames.specs.Unwinding.{unwound};
+ghost use Rattle.js_evaluation.specs.declared.limits.TheConstants.{MOST_OPEN};
 
 use crate::{EndKind, Open};
+use js_evaluation::MOST_OPEN;
 use std::alloc::Global;
 use std::marker::Model;
 use utf16_text::Memory;
-
-/// How many parts may be open.
-const MOST_OPEN: usize = 2000;
 
 /// The parts that are open, at most 2,000, which contracts see as a list, the innermost first.
 #[derive(Drop)]
@@ -50,6 +48,7 @@ impl<'p> Model for Frames<'p> {
     ghost use Rattle.js_tree.specs.contracts.statement.Clause as clause;
     ghost use Rattle.js_tree.specs.contracts.statement.Catch as handler;
     ghost use Rattle.js_tree.specs.contracts.statement.ForTarget as target;
+    ghost use Rattle.js_evaluation.specs.declared.limits.TheConstants.{MOST_OPEN};
     ghost use Rattle.js_frames.specs.declared.frame.Open.{Open};
 
     ghost Value = { List Open };
@@ -70,7 +69,7 @@ impl<'p> Model for Frames<'p> {
       target.the_row.coded,
     ) };
 
-    ghost invariant = { λ frames. 2000 ≤ vec_capacity frames.parts };
+    ghost invariant = { λ frames. MOST_OPEN ≤ vec_capacity frames.parts };
 }
 
 impl<'p> Frames<'p> {
@@ -108,9 +107,9 @@ impl<'p> Frames<'p> {
     /// Opens a part. It is given back exactly where 2,000 are open.
     pub fn push(&mut self, part: Open<'p>) -> Option<Open<'p>>
         ensures given_back { IfSome result (λ back. back ≡ part.entry) }
-        ensures full { OnSome result (most_open ≤ length self.old) }
+        ensures full { OnSome result (MOST_OPEN ≤ length self.old) }
         ensures unchanged { OnSome result (self.new ≡ self.old) }
-        ensures free { IfNone result (length self.old < most_open) }
+        ensures free { IfNone result (length self.old < MOST_OPEN) }
         ensures opened { IfNone result (self.new ≡ part.entry ∷ self.old) }
     {
         if self.len() >= MOST_OPEN {

@@ -8,6 +8,7 @@ use Rattle.js_tree.specs.declared.refusal.ReadKind.TheVariants.{BadToken, Fracti
 use Rattle.js_grammar.specs.Reading.{◌>>=◌}
 use Rattle.utf16_text.specs.Digits.{is_digit, is_hexadecimal, value_of}
 use Rattle.js_grammar.specs.Units.{first_passes, begins_with, is_word_start}
+use Rattle.whole_number.specs.declared.whole.TheConstants.{LARGEST}
 
 -- ---- numbers, each with how many units it has
 
@@ -19,7 +20,7 @@ is_fraction_mark u = nat_eq u 46 || nat_eq u 101 || nat_eq u 69
 abbrev pub literal : ℕ → ℕ → List ℕ → Result (ℤ × ℕ) ReadKind
 literal value n behind =
     if first_passes is_word_start behind then Err BadToken
-    else if nat_lt 9007199254740991 value then Err BadToken
+    else if nat_lt LARGEST value then Err BadToken
     else Ok (pos value, n)
 
 -- one or more hexadecimal digits, behind `0x`

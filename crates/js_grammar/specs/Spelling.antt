@@ -1,5 +1,5 @@
 -- The bytes of a printed script, this project's spelling: ASCII alone.
-use Rattle.std.specs.Prelude.{ℕ, List, [], ◌∷◌, ◌++◌, true, false}
+use Rattle.std.specs.Prelude.{ℕ, List, [], ◌∷◌, ◌++◌, true, false, codes}
 use Rattle.std.specs.List.{flat_map}
 use Rattle.std.specs.Fmt.{signed_decimal}
 use Rattle.utf16_text.specs.Escape.{escaped}
@@ -10,18 +10,24 @@ use Rattle.js_tree.specs.Tree.{StatementTree}
 use Rattle.js_grammar.specs.Signs.{sign_spelling}
 use Rattle.js_grammar.specs.Printing.{statement_tokens}
 
--- a text stands in `"` (34) with its escape, and a number in decimal
+abbrev pub quotation_mark : ℕ
+quotation_mark = 34
+
+abbrev pub line_feed : ℕ
+line_feed = 10
+
+-- a text stands in `"` with its escape, and a number in decimal
 abbrev pub spelling : TokenKind → List ℕ
 spelling (token.Word w) = escaped false w
 spelling (token.Number n) = signed_decimal n
-spelling (token.Text x) = 34 ∷ (escaped true x ++ 34 ∷ [])
+spelling (token.Text x) = quotation_mark ∷ (escaped true x ++ quotation_mark ∷ [])
 spelling (token.Sign s) = sign_spelling s
 
--- tokens parted by one space (32), with a line feed (10) behind the last
+-- tokens parted by one space, with a line feed (10) behind the last
 abbrev pub line : List Token → List ℕ
-line [] = 10 ∷ []
-line (t ∷ []) = spelling t.kind ++ 10 ∷ []
-line (t ∷ u ∷ ts) = spelling t.kind ++ 32 ∷ line (u ∷ ts)
+line [] = line_feed ∷ []
+line (t ∷ []) = spelling t.kind ++ line_feed ∷ []
+line (t ∷ u ∷ ts) = spelling t.kind ++ (codes " " ++ line (u ∷ ts))
 
 -- a script as it is printed: each of its statements is a line
 abbrev pub printed_bytes : List StatementTree → List ℕ

@@ -30,6 +30,7 @@ use Rattle.js_grammar.specs.Tokens.{tokens_of}
 use Rattle.js_grammar.specs.Readers.{Reader, row, rest_of, sign_of, next_sign, next_keyword, is_sign, place_at, refused, expect, name, semicolon, parted}
 use Rattle.js_grammar.specs.Operators.{is_target}
 use Rattle.js_grammar.specs.Expressions.{Deeper, a_statement, expression, in_parentheses, function_from, assignment, unary, suffixed}
+use Rattle.js_grammar.specs.declared.limits.TheConstants.{NESTING}
 
 -- ---- what stands around a statement
 
@@ -422,7 +423,7 @@ module _ (end : Place) where
   statement_by d around _ p all ts = evaluated d all
 
   unfoldable pub statement : Deeper → Around → Reader StatementTree
-  statement d around [] = Err (Unexpected, end)
+  statement d around [] = evaluated d []
   statement d around (t ∷ ts) = statement_by d around t.kind t.place (t ∷ ts) ts
 
   -- ---- nesting
@@ -452,9 +453,9 @@ module _ (end : Place) where
     body ← row (a_statement (deeper room) at_top) ts
     whole body.0 body.1
 
-  -- The script that tokens spell, or the first refusal in the order of reading: at most 200 parts are nested.
+  -- The script that tokens spell, or the first refusal in the order of reading: at most so many parts are nested.
   abbrev pub script_of : List Token → Result (List StatementTree) Refusal
-  script_of ts = script_within 200 ts
+  script_of ts = script_within NESTING ts
 
   -- The same without a limit of nesting: no more than two parts begin at one token.
   abbrev pub script_without_limit : List Token → Result (List StatementTree) Refusal

@@ -8,10 +8,12 @@
 
 mod around;
 mod form;
+mod limits;
 mod target;
 mod turn;
 
 pub use around::Around;
 pub use form::{Form, LeftSide};
+pub use limits::NESTING;
 pub use target::is_target;
 pub use turn::Turn;

@@ -6,6 +6,8 @@ use Rattle.pac_names.specs.declared.answer.Answer.{Answer}
 use Rattle.js_host.specs.declared.host.Looked.{Looked}
 use Rattle.js_host.specs.declared.host.Looked.TheVariants.{Known, Missing, TooMany, Memory}
 use Rattle.js_host.specs.Answers.{Name, Knowledge, known_answer}
+use Rattle.js_host.specs.declared.limits.TheConstants.{MOST_ALERTS, MOST_UNITS}
+use Rattle.pac_names.specs.declared.limits.TheConstants.{MOST_NAMES}
 
 -- what is known, the distinct names that were asked, in order, and the alerts that were kept
 pub record Seen : Type 0 where
@@ -19,17 +21,13 @@ fresh known = record { known = known; asked = []; alerts = [] }
 
 -- ---- names
 
--- how many distinct names a run may ask
-abbrev pub most_names : ℕ
-most_names = 32
-
 -- the name was asked before
 abbrev pub was_asked : List Name → Name → Bool
 was_asked asked name = list_any (bytes_eq name) asked
 
 -- the most names were asked, and this is another
 abbrev pub is_one_too_many : List Name → Name → Bool
-is_one_too_many asked name = nat_le most_names (length asked) && not (was_asked asked name)
+is_one_too_many asked name = nat_le MOST_NAMES (length asked) && not (was_asked asked name)
 
 -- with this name at the end, unless it was asked before
 abbrev pub with_name : List Name → Name → List Name
@@ -65,16 +63,9 @@ LooksUp lookup before Memory after = after ≡ before
 
 -- ---- alerts
 
--- how many alerts of a run are kept, and how many units of one
-abbrev pub most_alerts : ℕ
-most_alerts = 256
-
-abbrev pub most_units : ℕ
-most_units = 1024
-
 -- with one alert more, cut, unless the most are kept
 abbrev pub with_alert : List (List ℕ) → List ℕ → List (List ℕ)
-with_alert alerts text = if nat_lt (length alerts) most_alerts then alerts ++ take most_units text ∷ [] else alerts
+with_alert alerts text = if nat_lt (length alerts) MOST_ALERTS then alerts ++ take MOST_UNITS text ∷ [] else alerts
 
 -- what an alert does
 abbrev pub alerted : Seen → List ℕ → Seen
@@ -82,4 +73,4 @@ alerted seen text = record seen { alerts = with_alert seen.alerts text }
 
 -- what is kept of all alerts of a run: the first of them, each cut
 abbrev pub kept_alerts : List (List ℕ) → List (List ℕ)
-kept_alerts alerts = map (take most_units) (take most_alerts alerts)
+kept_alerts alerts = map (take MOST_UNITS) (take MOST_ALERTS alerts)

@@ -1,15 +1,11 @@
 // Alerts that are kept.
 ghost use Rattle.std.specs.Prelude.{◌≡◌, IfOk, OnErr, OnOk, take};
-ghost use Rattle.js_host.specs.Seen.{most_units, with_alert};
+ghost use Rattle.js_host.specs.Seen.{with_alert};
+ghost use Rattle.js_host.specs.declared.limits.TheConstants.{MOST_UNITS};
 
+use crate::limits::{MOST_ALERTS, MOST_UNITS};
 use std::alloc::Global;
 use utf16_text::{Memory, Text, TextList};
-
-/// How many alerts of a run are kept.
-const MOST_ALERTS: usize = 256;
-
-/// How many units of an alert are kept.
-const MOST_UNITS: usize = 1024;
 
 /// Puts the first 1,024 units of a text behind the alerts, unless there are 256. After Memory they are as before.
 pub fn keep_alert(alloc: Global, alerts: &mut TextList, text: &Text) -> Result<(), Memory>
@@ -19,12 +15,12 @@ pub fn keep_alert(alloc: Global, alerts: &mut TextList, text: &Text) -> Result<(
     if alerts.len() >= MOST_ALERTS {
         return Ok(());
     }
-    alerts.push(alloc, front(alloc, text)?)
+    alerts.push(alloc, kept_units(alloc, text)?)
 }
 
-/// The units of an alert that are kept.
-fn front(alloc: Global, text: &Text) -> Result<Text, Memory>
-    ensures { IfOk result (λ front. front ≡ take most_units text.now) }
+/// The units of a text that are kept.
+pub fn kept_units(alloc: Global, text: &Text) -> Result<Text, Memory>
+    ensures { IfOk result (λ kept. kept ≡ take MOST_UNITS text.now) }
 {
     if text.len() <= MOST_UNITS {
         text.copy(alloc)

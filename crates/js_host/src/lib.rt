@@ -6,6 +6,8 @@
 
 mod alerts;
 mod host;
+mod limits;
 
-pub use alerts::keep_alert;
+pub use alerts::{keep_alert, kept_units};
 pub use host::{Host, Looked};
+pub use limits::{MOST_ALERTS, MOST_UNITS};

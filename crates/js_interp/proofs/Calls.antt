@@ -13,7 +13,7 @@ use Rattle.run_trees.specs.Runs.{◌>>=◌}
 use Rattle.js_evaluation.specs.State.{Stop, Does, test_text, built_in_object, global_object}
 use Rattle.js_evaluation.specs.Objects.{global_id}
 use Rattle.js_evaluation.specs.Evaluation as def
-use Rattle.js_evaluation.specs.Evaluation.{evaluation, most_open, call_part, called_for, entry_of, outside}
+use Rattle.js_evaluation.specs.Evaluation.{evaluation, call_part, called_for, entry_of, outside}
 use Rattle.js_evaluation.specs.declared.fault.FaultCode.TheVariants as code
 use Rattle.js_host.specs.Seen.{Seen}
 use Rattle.run_trees.specs.RunTree.{walk}
@@ -30,6 +30,7 @@ use Rattle.js_runs.specs.declared.running.Cut.TheVariants as cut
 use Rattle.js_runs.specs.Closes.{Closes}
 use Rattle.js_interp.specs.Runs.{Reaches, RunsBy, called}
 use Rattle.js_interp.proofs.Runs.{loop_runs, heap_then, heap_stops}
+use Rattle.js_evaluation.specs.declared.limits.TheConstants.{MOST_OPEN}
 
 module _ (functions : List FunctionTree) (entry : def.Entry) (m : Machine) (before : Seen) (r : Result (Result Value Stop) Cut) (m' : Machine) (after : Seen) where
   -- what the name of the script's function stands for is called
@@ -59,7 +60,7 @@ module _ (functions : List FunctionTree) (entry : def.Entry) (f : ObjectId) (m :
   of_host = test_text entry.host outside
 
   abbrev entered : Does Value
-  entered = evaluation functions most_open (call_part f global_object (value.Text entry.url ∷ value.Text entry.host ∷ []) outside)
+  entered = evaluation functions MOST_OPEN (call_part f global_object (value.Text entry.url ∷ value.Text entry.host ∷ []) outside)
 
   -- both texts are short enough
   pub tested_runs : (m' : Machine) (after : Seen) → Works of_url m.state.heap (Ok tt) m.state.heap → Works of_host m.state.heap (Ok tt) m.state.heap
@@ -84,9 +85,9 @@ module _ (functions : List FunctionTree) (entry : def.Entry) (f : ObjectId) (m :
 pub call_runs : (entry : def.Entry) (f global : ObjectId) (arguments : List Value) (m : Machine) (before : Seen) (r : Result (Result Value Stop) Cut) (m' : Machine) (after : Seen)
     → m.frames ≡ [] → global.0 ≡ built_in_number built_in.Global → arguments ≡ value.Text entry.url ∷ value.Text entry.host ∷ []
     → Closes m (now.Begin (part.Call f (value.Object global) arguments outside)) before r m' after
-    → RunsBy (evaluation (functions_of m) most_open (call_part f global_object (value.Text entry.url ∷ value.Text entry.host ∷ []) outside)) m before r m' after
+    → RunsBy (evaluation (functions_of m) MOST_OPEN (call_part f global_object (value.Text entry.url ∷ value.Text entry.host ∷ []) outside)) m before r m' after
 call_runs entry f global arguments m before r m' after empty is handed k =
     let same : global ≡ built_in_object built_in.Global = ap (λ (n : ℕ). record { 0 = n }) is in
-    subst (λ (vs : List Value). RunsBy (evaluation (functions_of m) most_open (call_part f global_object vs outside)) m before r m' after) handed
-    (subst (λ (id : ObjectId). RunsBy (evaluation (functions_of m) most_open (call_part f (value.Object id) arguments outside)) m before r m' after) same
+    subst (λ (vs : List Value). RunsBy (evaluation (functions_of m) MOST_OPEN (call_part f global_object vs outside)) m before r m' after) handed
+    (subst (λ (id : ObjectId). RunsBy (evaluation (functions_of m) MOST_OPEN (call_part f (value.Object id) arguments outside)) m before r m' after) same
     (loop_runs m (part.Call f (value.Object global) arguments outside) before r m' after empty k))

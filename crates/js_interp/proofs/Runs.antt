@@ -10,7 +10,7 @@ use Rattle.run_trees.proofs.Restarting.{restarts}
 use Rattle.run_trees.specs.RunTree.{RunTree, Walked, Ended, Stopped, walk}
 use Rattle.run_trees.specs.Runs.{◌>>=◌, onward}
 use Rattle.js_evaluation.specs.State.{RunEnd, Stop, Does}
-use Rattle.js_evaluation.specs.Evaluation.{evaluation, most_open}
+use Rattle.js_evaluation.specs.Evaluation.{evaluation}
 use Rattle.js_frames.specs.Rules.{AfterValue}
 use Rattle.js_frames.specs.RestOf.{room, rest_of}
 use Rattle.js_frames.specs.Parts.{context_of}
@@ -30,6 +30,7 @@ use Rattle.js_interp.specs.declared.outcome.Outcome.{Outcome}
 use Rattle.js_interp.specs.declared.one_run.RunAnswer.TheVariants as answer
 use Rattle.js_interp.specs.Answers.{Answers}
 use Rattle.js_interp.specs.Runs.{EndsAs, Reaches, RunsBy}
+use Rattle.js_evaluation.specs.declared.limits.TheConstants.{MOST_OPEN}
 
 closed_reaches : (last : AfterValue) (walked : Walked RunEnd) (r : Result (Result Value Stop) Cut) (m : Machine) (seen : Seen) → Closed last walked r m seen → Reaches last walked r m seen
 closed_reaches last walked (Ok end) m seen k = k
@@ -41,7 +42,7 @@ closed_reaches last walked (Err (cut.Missing name)) m seen k = k
 
 -- the loop does a part to its end
 pub loop_runs : (m : Machine) (first : Part) (before : Seen) (r : Result (Result Value Stop) Cut) (m' : Machine) (after : Seen) → m.frames ≡ [] → Closes m (now.Begin first) before r m' after
-    → RunsBy (evaluation (functions_of m) most_open (part_of (context_of m.context) first)) m before r m' after
+    → RunsBy (evaluation (functions_of m) MOST_OPEN (part_of (context_of m.context) first)) m before r m' after
 loop_runs m first before r m' after empty k last =
     closed_reaches last _ r m' after (subst (λ (fs : List Open). Closed last (walk (evaluation (functions_of m) (room fs) (part_of (context_of m.context) first) (rest_of (functions_of m) last fs) (run_state m.state)) before) r m' after)
     empty (k.closes last))

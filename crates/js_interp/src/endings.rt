@@ -1,6 +1,5 @@
 // How a run ends.
-ghost use Rattle.std.specs.Prelude.{◌≡◌, IfOk, Ok, take};
-ghost use Rattle.js_host.specs.Seen.{most_units};
+ghost use Rattle.std.specs.Prelude.{◌≡◌, IfOk, Ok};
 ghost use Rattle.heap_values.specs.declared.ids.Kind.TheVariants as kind;
 ghost use Rattle.object_heap.specs.Heap.{found_of, kind_in, object_at};
 ghost use Rattle.heap_steps.specs.Works.{plain_fault};
@@ -14,6 +13,7 @@ use heap_steps::Halt;
 use heap_values::{Found, Kind, ObjectId, Value};
 use js_convert::to_text;
 use js_evaluation::{Fault, FaultCode, Thrown};
+use js_host::kept_units;
 use js_machine::End;
 use js_native_calls::joined;
 use js_natives::class_of;
@@ -25,9 +25,6 @@ use utf16_text::{Memory, Text};
 
 /// The place of what arises outside the script.
 pub(crate) const OUTSIDE: Place = Place { line: 0, column: 0 };
-
-/// How many units of what was thrown are kept.
-const MOST_UNITS: usize = 1024;
 
 /// How a run ends that comes to this with this heap. What is thrown and not handled is a fault.
 pub(crate) fn ending(alloc: Global, heap: &Heap, end: Result<End, Halt>) -> Result<Ending, Memory>
@@ -79,23 +76,12 @@ fn uncaught(alloc: Global, heap: &Heap, thrown: Thrown) -> Result<Ending, Memory
     ensures { IfOk result (λ ending. seen_ending ending ≡ spec.uncaught heap.now thrown.value thrown.place) }
 {
     let text = thrown_text(alloc, heap, &thrown.value)?;
-    let detail = front(alloc, &text)?;
+    let detail = kept_units(alloc, &text)?;
     Ok(Ending::Fault(Fault {
         code: FaultCode::Uncaught,
         place: thrown.place,
         detail,
     }))
-}
-
-/// The units of a text that are kept.
-fn front(alloc: Global, text: &Text) -> Result<Text, Memory>
-    ensures { IfOk result (λ front. front ≡ take most_units text.now) }
-{
-    if text.len() <= MOST_UNITS {
-        text.copy(alloc)
-    } else {
-        text.slice(alloc, 0, MOST_UNITS)
-    }
 }
 
 /// The text of a value that was thrown. No script is run for it.

@@ -10,12 +10,13 @@ use Rattle.js_evaluation.specs.State.{Does, global_object}
 use Rattle.js_evaluation.specs.Objects.{Context, global_id}
 use Rattle.js_evaluation.specs.Expressions.{reference, write}
 use Rattle.js_evaluation.specs.Evaluation as def
-use Rattle.js_evaluation.specs.Evaluation.{Part, expression_part, target_part, statement_part, call_part, construct_part, load_part, part_place, node, evaluation, Entry, entry_of, called_for, script_run, first_state, outer_scope, outside, most_open}
+use Rattle.js_evaluation.specs.Evaluation.{Part, expression_part, target_part, statement_part, call_part, construct_part, load_part, part_place, node, evaluation, Entry, entry_of, called_for, script_run, first_state, outer_scope, outside}
 use Rattle.js_law_evaluation.specs.Laws.{AsksLookupNames, RunsAskLookupNames}
 use Rattle.js_law_evaluation.proofs.OfState.{Ends, fails, reads, ◌then◌, charges-ends, test_text-ends}
 use Rattle.js_law_evaluation.proofs.OfExpressions.{write-ends, target_node-ends, reference-ends, expression_node-ends}
 use Rattle.js_law_evaluation.proofs.OfStatements.{statements_from-ends, statement_node-ends}
 use Rattle.js_law_evaluation.proofs.OfEntries.{call_node-ends, construct_node-ends, load_node-ends}
+use Rattle.js_evaluation.specs.declared.limits.TheConstants.{MOST_OPEN}
 
 module _ (functions : List FunctionTree) (go : Part → Does Value) (go-ends : (part : Part) → Ends (go part)) where
   references-end : (cx : Context) (e : _) → Ends (reference functions (def.visit functions go) (def.visit_target functions go) (def.call functions go) (def.construct functions go) cx e)
@@ -49,11 +50,11 @@ called_for-ends : (functions : List FunctionTree) (entry : Entry) (f : Option Ob
 called_for-ends functions entry None = fails _ outside
 called_for-ends functions entry (Some f) =
     test_text-ends entry.url outside then test_text-ends entry.host outside
-    then evaluation-ends functions most_open (call_part f global_object (value.Text entry.url ∷ value.Text entry.host ∷ []) outside)
+    then evaluation-ends functions MOST_OPEN (call_part f global_object (value.Text entry.url ∷ value.Text entry.host ∷ []) outside)
 
 pub runs-end : (ss : Statements) (functions : List FunctionTree) (entry : Entry) → Ends (script_run ss functions entry)
 runs-end ss functions entry =
-    evaluation-ends functions most_open (load_part outer_scope ss)
+    evaluation-ends functions MOST_OPEN (load_part outer_scope ss)
     then reads (λ s. called_for-ends functions entry (entry_of s.heap (found_of s.heap global_id (codes "FindProxyForURL"))))
 
 pub runs-ask : RunsAskLookupNames

@@ -69,7 +69,7 @@ module _ (end : Place) where
 
     statement_aside : (around : Around) → Aside placeless_statement (statement nowhere c around) (statement end d around)
     unfolding statement
-    statement_aside around [] = refl
+    statement_aside around [] = evaluated_aside end d c g []
     statement_aside around (t ∷ ts) = statement_by_aside around t.kind t.place t ts
 
   -- ---- nesting

@@ -69,7 +69,7 @@ module _ (end : Place) where
 
     statement_reads : (a : Around) → ReadsStatement a (statement end d a)
     unfolding statement
-    statement_reads a n [] h = tt
+    statement_reads a n [] h = evaluated_reads end d g a n [] h
     statement_reads a n (t ∷ ts) h = statement_by_reads a t.kind t.place n (t ∷ ts) ts h (rest_short n (t ∷ ts) h)
 
   -- what is nested may be read with any room for nesting

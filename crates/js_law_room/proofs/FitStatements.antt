@@ -377,5 +377,5 @@ module _ (end : Place) (n : ℕ) (d : Deeper) (reach : Reach n d) where
 
     pub statement-leaves : (around : Around) (ts : List Token) → length ts ≤ n → Leaves (length ts) (statement end d around ts)
     unfolding statement
-    statement-leaves around [] less = refuses _ refl
+    statement-leaves around [] less = evaluated-leaves end (suc n) d values [] (omega arith)
     statement-leaves around (t ∷ ts) less = statement_by-leaves around t.kind t.place t ts (omega arith)

@@ -287,5 +287,5 @@ module _ (d e : Deeper) (stays : DeeperStays d e) (end : Place) where
 
   pub statement-stays : (around : Around) → ReadersStay (statement end d around) (statement end e around)
   unfolding statement
-  statement-stays around [] = same _
+  statement-stays around [] = evaluated-stays []
   statement-stays around (t ∷ ts) = statement_by-stays around t.kind t.place (t ∷ ts) ts

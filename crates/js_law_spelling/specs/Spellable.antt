@@ -5,10 +5,11 @@ use Rattle.utf16_text.specs.Units.{is_unit}
 use Rattle.js_tree.specs.declared.token.TokenKind.{TokenKind}
 use Rattle.js_tree.specs.declared.token.TokenKind.TheVariants.{Word, Number, Text, Sign}
 use Rattle.js_grammar.specs.Units.{first_passes, is_word_start, is_word_part}
+use Rattle.whole_number.specs.declared.whole.TheConstants.{LARGEST}
 
 -- from 0 to 2^53 - 1
 abbrev pub is_literal : ℤ → Bool
-is_literal (pos n) = nat_le n 9007199254740991
+is_literal (pos n) = nat_le n LARGEST
 is_literal (negsuc n) = false
 
 -- words of word units, whole numbers that a literal can have, texts of 16-bit units, and each sign

@@ -68,7 +68,7 @@ module _ (end : Place) where
 
   statement_keeps : (d : Deeper) (g : KeepsDeeper d) (around : Around) (ts : List Token) → Gives (Keeping statement_tokens ts) (statement end d around ts)
   unfolding statement
-  statement_keeps d g around [] = refuses
+  statement_keeps d g around [] = evaluated_keeps end d g []
   statement_keeps d g around (t ∷ ts) = statement_by_keeps d g around t.kind t.place t ts refl
 
   -- ---- nesting

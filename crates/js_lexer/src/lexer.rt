@@ -3,6 +3,7 @@ ghost use Rattle.std.specs.Prelude.{◌≡◌, ◌≤◌, ◌++◌, IfOk, OnOk, 
 ghost use Rattle.js_grammar.specs.Reading.{Gives};
 ghost use Rattle.js_grammar.specs.Units.{place_after};
 ghost use Rattle.js_grammar.specs.Tokens.{line_ended, piece_tokens, tokens_of};
+ghost use Rattle.utf16_text.specs.declared.limits.TheConstants.{LONGEST_FILE};
 
 use crate::pieces::piece_at;
 use crate::recent::RecentWords;
@@ -45,7 +46,7 @@ pub struct Lexed {
 /// The tokens of a text, each with its place and whether a line ended before it; or the first refusal: BadToken,
 /// FractionLiteral or Unsupported, at the start of what is refused (ECMA-262 5.1, section 7, cut to this profile).
 pub fn lex(alloc: Global, source: &Text) -> Result<Lexed, ReadAnswer>
-    requires { length source.now ≤ 1048576 }
+    requires { length source.now ≤ LONGEST_FILE }
     ensures tokens { Gives (λ lexed. lexed.tokens.items) result (tokens_of source.now) }
     ensures end { IfOk result (λ lexed. lexed.end ≡ place_after (record { line = 1; column = 1 }) source.now) }
 {

@@ -35,13 +35,15 @@ use Rattle.js_native_calls.specs.Calls.{converted, join_refusal, joined_from, jo
 use Rattle.js_native_calls.proofs.Grouping.{grouped}
 use Rattle.js_native_calls.proofs.Steps.{moves_as}
 use Rattle.js_native_calls.proofs.Objects.{text_of_element}
+use Rattle.utf16_text.specs.declared.limits.TheConstants.{LONGEST_TEXT}
+use Rattle.object_heap.specs.declared.limits.TheConstants.{MOST_TEXT}
 
 -- a text that is too long ends the run
-too_long : (m : Machine) (text : List ℕ) (place : Place) → nat_lt 262144 (length text) ≡ true → Moves (gives_text text place) m (Err (halt.Fault code.StringTooLong place)) m
+too_long : (m : Machine) (text : List ℕ) (place : Place) → nat_lt LONGEST_TEXT (length text) ≡ true → Moves (gives_text text place) m (Err (halt.Fault code.StringTooLong place)) m
 too_long m text place long =
     record {
       goes = λ last. ap (λ (b : Bool). changed place (if b then Err answer.StringTooLong
-          else if nat_lt 16777216 (m.state.heap.units + length text) then Err answer.TextSpent
+          else if nat_lt MOST_TEXT (m.state.heap.units + length text) then Err answer.TextSpent
           else Ok (record m.state.heap { units = m.state.heap.units + length text }))
           (onward (λ _. pure (value.Text text)) (rest_of (functions_of m) last m.frames)) (run_state m.state)) long;
       light = tt;
@@ -57,14 +59,14 @@ is_long false us a e = cc
 
 -- the text that joining makes is the joined one
 pub joined_text : (us text : List ℕ) → made_text us ≡ Ok text → text ≡ us
-joined_text us text e = made (nat_lt 262144 (length us)) us text e
+joined_text us text e = made (nat_lt LONGEST_TEXT (length us)) us text e
 
 -- a refusal to join ends the run, but for want of memory
 pub join_refused : (m : Machine) (us : List ℕ) (place : Place) (a : JoinAnswer) → ((a ≡ join.Memory) ⊎ (made_text us ≡ Err a))
     → Moves (gives_text us place) m (Err (join_refusal a place)) m
 join_refused m us place join.Memory c = record { goes = λ last. tt; light = tt }
 join_refused m us place join.TooLong (inl e) = cc
-join_refused m us place join.TooLong (inr e) = too_long m us place (is_long (nat_lt 262144 (length us)) us join.TooLong e)
+join_refused m us place join.TooLong (inr e) = too_long m us place (is_long (nat_lt LONGEST_TEXT (length us)) us join.TooLong e)
 
 -- all elements of an array
 pub all_elements : (m : Machine) (array : ObjectId) (separator : List ℕ) (place : Place) (r : Result Now Halt) (m' : Machine)

@@ -2,18 +2,17 @@
 ghost use Rattle.std.specs.Prelude.{◌≤◌, length};
 ghost use Rattle.js_grammar.specs.Reading.{Gives};
 ghost use Rattle.js_grammar.specs.Statements.{script_within, script_of_text};
+ghost use Rattle.utf16_text.specs.declared.limits.TheConstants.{LONGEST_FILE};
 
 use crate::reader::PartReader;
 use crate::root::{read_expression, read_statement};
 use js_expression_parser::{Parser, Statements};
+use js_grammar::NESTING;
 use js_lexer::lex;
 use js_reading::at_top;
 use js_tree::{Place, ReadAnswer, ReadKind, Script, StatementList, Token};
 use std::alloc::Global;
 use utf16_text::Text;
-
-/// How many parts may be nested.
-const NESTING: u32 = 200;
 
 /// The statements that tokens spell, with room for so many nested parts; `end` is the place after the last unit.
 /// Refused comes with the first of Unexpected, TooDeep and Unsupported in the order of reading, Memory for want of it.
@@ -48,7 +47,7 @@ pub fn read_tokens(
 /// first refusal: one of its tokens stands before all others, and then comes the first of Unexpected, TooDeep and
 /// Unsupported in the order of reading. Memory comes for want of it.
 pub fn read_script(alloc: Global, source: &Text) -> Result<Script, ReadAnswer>
-    requires { length source.now ≤ 1048576 }
+    requires { length source.now ≤ LONGEST_FILE }
     ensures { Gives (λ script. script) result (script_of_text source.now) }
 {
     let lexed = lex(alloc, source)?;

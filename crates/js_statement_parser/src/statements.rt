@@ -11,7 +11,7 @@ use js_expression_parser::{Nested, Parser};
 use js_grammar::Around;
 use js_lexer::keyword_of;
 use js_loop_parser::{do_statement, for_statement, var_statement, while_statement};
-use js_reading::{Read, alone, broken, continued, next_sign, read_name, refused, rest_of};
+use js_reading::{Read, alone, broken, continued, next_sign, read_name, rest_of};
 use js_tree::{
     Keyword, Place, ReadAnswer, ReadKind, Sign, Statement, StatementNode, Token, TokenKind,
 };
@@ -96,7 +96,7 @@ pub fn statement<'a, N: Nested>(
     ensures { Reads (spec.statement parser.now.end (N.readers parser.now.nested) around tokens.now) result }
 {
     let [token, rest @ ..] = tokens else {
-        return Err(refused(parser.end, ReadKind::Unexpected, tokens));
+        return evaluated(parser, tokens);
     };
     let place = token.place;
     match &token.kind {

@@ -18,6 +18,8 @@ use Rattle.heap_objects.specs.declared.marks.Marks.{Marks}
 use Rattle.heap_objects.specs.Object.{empty_object, own_found, own_marks, is_length, grown_length_of, put_cost_of, object_with, can_delete, object_without, object_cut}
 use Rattle.heap_elements.specs.Properties.{property_at, listed_names_of}
 use Rattle.heap_objects.specs.Scope.{fresh_scope, slot_in, scope_with}
+use Rattle.utf16_text.specs.declared.limits.TheConstants.{LONGEST_TEXT}
+use Rattle.object_heap.specs.declared.limits.TheConstants.{LONGEST_ARRAY, MOST_CELLS, MOST_TEXT}
 
 -- the object of this number, where there is one
 abbrev pub object_at : HeapView → ObjectId → Option ObjectView
@@ -98,12 +100,12 @@ older_of (Some p) at = if nat_lt p.0 at then Some p else None
 
 -- a new object, and the heap with it
 abbrev pub made_of : HeapView → Kind → Option ObjectId → Result (ObjectId × HeapView) HeapAnswer
-made_of h kind prototype = if nat_le 2000000 h.cells then Err answer.HeapFull
+made_of h kind prototype = if nat_le MOST_CELLS h.cells then Err answer.HeapFull
     else Ok (record { 0 = length h.objects }, record h { objects = h.objects ++ empty_object kind (older_of prototype (length h.objects)) ∷ []; cells = h.cells + 1 })
 
 -- a new scope, each slot undefined, and the heap with it
 abbrev pub scope_made_of : HeapView → ℕ → Option ScopeId → Result (ScopeId × HeapView) HeapAnswer
-scope_made_of h size parent = if nat_lt 2000000 (h.cells + (size + 1)) then Err answer.HeapFull
+scope_made_of h size parent = if nat_lt MOST_CELLS (h.cells + (size + 1)) then Err answer.HeapFull
     else Ok (record { 0 = length h.scopes }, record h { scopes = h.scopes ++ fresh_scope size parent ∷ []; cells = h.cells + (size + 1) })
 
 -- ---- writing (8.12.5, 8.12.9 and 15.4.5.1)
@@ -114,15 +116,15 @@ heap_with h at o cost = record h { objects = slice_set h.objects at o; cells = h
 
 -- a length for an array, where the value is a whole number from 0
 abbrev pub length_stored : HeapView → ℕ → ObjectView → Value → Result HeapView HeapAnswer
-length_stored h at o (Number (pos n)) = if nat_lt 100000 n then Err answer.ArrayTooLong
-    else if nat_lt 2000000 (h.cells + (n - o.length)) then Err answer.HeapFull
+length_stored h at o (Number (pos n)) = if nat_lt LONGEST_ARRAY n then Err answer.ArrayTooLong
+    else if nat_lt MOST_CELLS (h.cells + (n - o.length)) then Err answer.HeapFull
     else Ok (heap_with h at (object_cut o n) (n - o.length))
 length_stored h at o _ = Err answer.BadLength
 
 -- so many cells after others, for an object of this length
 abbrev pub limited_cost : ℕ → ℕ → ℕ → Result ℕ HeapAnswer
-limited_cost cells size cost = if nat_lt 100000 size then Err answer.ArrayTooLong
-    else if nat_lt 2000000 (cells + cost) then Err answer.HeapFull
+limited_cost cells size cost = if nat_lt LONGEST_ARRAY size then Err answer.ArrayTooLong
+    else if nat_lt MOST_CELLS (cells + cost) then Err answer.HeapFull
     else Ok cost
 
 -- the cells that a property takes under a name that is not the length of an array, after so many cells
@@ -191,6 +193,6 @@ slot_written_of h scope slot v = slot_written_in h scope.0 (scope_at h scope) sl
 -- ---- texts made
 
 abbrev pub text_spent_of : HeapView → ℕ → Result HeapView HeapAnswer
-text_spent_of h units = if nat_lt 262144 units then Err answer.StringTooLong
-    else if nat_lt 16777216 (h.units + units) then Err answer.TextSpent
+text_spent_of h units = if nat_lt LONGEST_TEXT units then Err answer.StringTooLong
+    else if nat_lt MOST_TEXT (h.units + units) then Err answer.TextSpent
     else Ok (record h { units = h.units + units })

@@ -46,22 +46,17 @@ ghost use Rattle.object_heap.specs.Heap.{
   slot_written_of,
   text_spent_of,
 };
+ghost use Rattle.utf16_text.specs.declared.limits.TheConstants.{LONGEST_TEXT};
+ghost use Rattle.object_heap.specs.declared.limits.TheConstants.{LONGEST_ARRAY, MOST_CELLS, MOST_TEXT};
 
 use crate::fresh::{make_built_ins, object_of};
+use crate::limits::{LONGEST_ARRAY, MOST_CELLS, MOST_TEXT};
 use heap_elements::index_name;
 use heap_objects::{Marks, NameSet, Object, Scope};
 use heap_values::{BuiltIn, Content, Found, HeapAnswer, Kind, ObjectId, Property, ScopeId, Value};
 use std::alloc::Global;
 use std::marker::Model;
-use utf16_text::{Memory, Text, TextList};
-
-const MOST_CELLS: u64 = 2_000_000;
-
-const LONGEST_ARRAY: u32 = 100_000;
-
-const LONGEST_TEXT: usize = 262_144;
-
-const MOST_TEXT: u64 = 16_777_216;
+use utf16_text::{LONGEST_TEXT, Memory, Text, TextList};
 
 /// The heap of a run, seen as its objects and scopes in the order of creation, the cells made and the units of text
 /// made.
@@ -77,12 +72,13 @@ impl Model for Heap {
     ghost use Rattle.std.specs.Prelude.{◌≤◌, ◌+◌, length};
     ghost use Rattle.heap_values.specs.Views.{HeapView};
     ghost use Rattle.object_heap.specs.Heap.{PrototypesAreOlder};
+    ghost use Rattle.object_heap.specs.declared.limits.TheConstants.{MOST_CELLS, MOST_TEXT};
 
     ghost Value = { HeapView };
 
     ghost view = { λ h. record { objects = h.objects.items; scopes = h.scopes.items; cells = h.cells; units = h.units } };
 
-    ghost invariant = { λ h. (h.cells ≤ 2000000) × (h.units ≤ 16777216) × (length h.objects.items ≤ h.cells + 1000) × (length h.scopes.items ≤ h.cells + 1) × PrototypesAreOlder h.objects.items };
+    ghost invariant = { λ h. (h.cells ≤ MOST_CELLS) × (h.units ≤ MOST_TEXT) × (length h.objects.items ≤ h.cells + 1000) × (length h.scopes.items ≤ h.cells + 1) × PrototypesAreOlder h.objects.items };
 }
 
 impl Heap {
@@ -521,19 +517,19 @@ fn write_cost(
     name: &Text,
     old: Option<Marks>,
 ) -> Result<u64, HeapAnswer>
-    requires few { cells ≤ 2000000 }
+    requires few { cells ≤ MOST_CELLS }
     requires old { old ≡ own_marks object.now name.now }
     ensures cost { result ≡ property_cost cells object.now name.now }
-    ensures within { IfOk result (λ cost. cells + cost ≤ 2000000) }
+    ensures within { IfOk result (λ cost. cells + cost ≤ MOST_CELLS) }
 {
     limited_cost(cells, object.grown_length(name), object.put_cost(name, old))
 }
 
 // So many cells more, where neither the array of this length would be too long nor the heap full.
 fn limited_cost(cells: u64, length: u32, cost: u64) -> Result<u64, HeapAnswer>
-    requires { cells ≤ 2000000 }
+    requires { cells ≤ MOST_CELLS }
     ensures cost { result ≡ limited_cost cells length cost }
-    ensures within { IfOk result (λ cost. cells + cost ≤ 2000000) }
+    ensures within { IfOk result (λ cost. cells + cost ≤ MOST_CELLS) }
 {
     if length > LONGEST_ARRAY {
         return Err(HeapAnswer::ArrayTooLong);

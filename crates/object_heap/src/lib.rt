@@ -7,8 +7,10 @@
 
 mod fresh;
 mod heap;
+mod limits;
 mod table;
 
 pub use heap::Heap;
 pub use heap_objects::Marks;
 pub use heap_values::{BuiltIn, Found, HeapAnswer, Kind, ObjectId, ScopeId, Value};
+pub use limits::{LONGEST_ARRAY, MOST_CELLS, MOST_TEXT};

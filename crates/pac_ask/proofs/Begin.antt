@@ -7,7 +7,6 @@ use Rattle.pac_names.specs.Names.{is_lookup_name}
 use Rattle.pac_ports.specs.Dice.{DiceTold, Gave}
 use Rattle.poll_log.specs.declared.question.Question.{Question}
 use Rattle.poll_log.specs.declared.terms.Terms.{Terms}
-use Rattle.poll_log.specs.declared.terms.TheConstants.{NAMES}
 use Rattle.poll_log.specs.Turns.{Begin}
 use Rattle.poll_log.specs.Beats.{last_stretch, stretches}
 use Rattle.poll_log.specs.Questions.{IsQuestion, asked_in, octets_of, names_of, new_among}
@@ -30,6 +29,7 @@ use Rattle.pac_ask.specs.Task.{job_of, task_of}
 use Rattle.pac_ask.specs.Standing.{Stands}
 use Rattle.pac_ask.specs.OneName.{StandsFor, new_one}
 use Rattle.pac_ask.specs.declared.one_name.OneName.{OneName}
+use Rattle.pac_names.specs.declared.limits.TheConstants.{MOST_NAMES}
 
 first_alone : (q : Question) → IsQuestion q → new_among [] (asked_in (octets_of q ∷ [])) ≡ q ∷ []
 unfolding new_among
@@ -53,7 +53,7 @@ stands_begin t q w p =
     asks : names_of (q ∷ []) ≡ once [] (wanted (job_of q.name ∷ []) (told t (Begin (map octets_of (q ∷ [])))))
     asks = sym (ap (λ m. once [] (cons_option (lacking_or q.name m None) [])) (told-begin t (octets_of q ∷ []) q.name) ∙ once-new [] q.name refl)
 
-in_order : (name : List ℕ) → AsksInOrder NAMES (λ map. name ∷ [])
+in_order : (name : List ℕ) → AsksInOrder MOST_NAMES (λ map. name ∷ [])
 in_order name =
     record {
       done = λ larger smaller x e. refl;
@@ -70,7 +70,7 @@ sound t name w named =
     record {
       terms = record { waits = w.waits; tried = w.tried };
       named = All-cons AsksLookupNames (job_of name) [] (λ answers n e. go (answers name) n e) (All-nil AsksLookupNames);
-      restartable = All-cons (IsRestartable NAMES) (job_of name) [] (runs_restartable NAMES (λ map. name ∷ []) (in_order name)).law (All-nil (IsRestartable NAMES));
+      restartable = All-cons (IsRestartable MOST_NAMES) (job_of name) [] (runs_restartable MOST_NAMES (λ map. name ∷ []) (in_order name)).law (All-nil (IsRestartable MOST_NAMES));
       unsent_runs = λ turns sent. refl;
     }
   where

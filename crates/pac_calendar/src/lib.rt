@@ -17,7 +17,7 @@ mod zone;
 pub use argument::CalendarArg;
 pub use dates::date_range;
 pub use moment::{Civil, Moments};
-pub use showing::moments;
+pub use showing::{LAST_MOMENT, moments};
 pub use times::time_range;
 pub use weekdays::weekday_range;
 pub use zone::{Zone, read_zone};

@@ -3,6 +3,7 @@ ghost use Rattle.std.specs.Prelude.{◌≡◌, pos, neg_ℤ, IfOk};
 ghost use Rattle.jiff_core.specs.Calendar.{IsBetween};
 ghost use Rattle.jiff_core.specs.Weekday.{sunday_zero};
 ghost use Rattle.pac_calendar.specs.Civil.{civil_of, IsCivilAt, AreMomentsAt};
+ghost use Rattle.pac_calendar.specs.declared.showing.TheConstants.{LAST_MOMENT};
 
 use crate::moment::{Civil, Moments};
 use crate::zone::Zone;
@@ -12,9 +13,13 @@ use jiff::tz::Offset;
 use std::alloc::Global;
 use utf16_text::Memory;
 
+/// The last moment of a command, in seconds since 1970-01-01T00:00:00Z: the last second of the year 9998 in a zone a day
+/// behind.
+pub const LAST_MOMENT: u64 = 253_370_764_799;
+
 /// What clocks show at the instant that many seconds after 1970-01-01T00:00:00Z. It takes no memory.
 pub fn moments(_alloc: Global, seconds: i64, zone: &Zone) -> Result<Moments, Memory>
-    requires { IsBetween (pos 0) (pos 253_370_764_799) seconds }
+    requires { IsBetween (pos 0) (pos LAST_MOMENT) seconds }
     ensures { IfOk result (λ m. AreMomentsAt seconds zone.now m) }
 {
     let gmt = shown_at(seconds);

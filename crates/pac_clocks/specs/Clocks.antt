@@ -3,12 +3,13 @@ use Rattle.std.specs.Prelude.{ℕ, zero, suc, ◌+◌, ◌/◌, ◌%◌, nat_lt,
 use Rattle.jiff_core.specs.Calendar.{days_in_month}
 use Rattle.pac_calendar.specs.declared.moment.Civil.{Civil}
 use Rattle.pac_calendar.specs.declared.moment.Moments.{Moments}
+use Rattle.pac_calendar.specs.declared.showing.TheConstants.{LAST_MOMENT}
 
 -- the moment nearest to this that a command may have: from 1970 to the end of the year 9998
 abbrev pub nearest : ℤ → ℤ
 nearest seconds =
     if int_lt seconds (pos 0) then pos 0
-    else (if int_lt (pos 253370764799) seconds then pos 253370764799 else seconds)
+    else (if int_lt (pos LAST_MOMENT) seconds then pos LAST_MOMENT else seconds)
 
 pub record Day : Type 0 where
   pub year : ℤ

@@ -11,6 +11,7 @@ use Rattle.js_grammar.specs.Statements.{script_of_text}
 use Rattle.pac_plan.specs.Plan.{Output, say, line, read}
 use Rattle.pac_plan.specs.declared.status.Status.TheVariants as status
 use Rattle.pac_command.specs.Plans.{CommandPlan, if_read}
+use Rattle.report_text.specs.Report.{place_text}
 
 abbrev pub refused : List ℕ → Output
 refused what = record { status = status.Refused; text = line (codes "refused " ++ what) }
@@ -22,17 +23,13 @@ kind_name kind.TooDeep = codes "TooDeep"
 kind_name kind.FractionLiteral = codes "FractionLiteral"
 kind_name kind.Unsupported = codes "Unsupported"
 
--- line, a colon (58) and column
-abbrev pub place_text : Place → List ℕ
-place_text place = decimal place.line ++ 58 ∷ decimal place.column
-
--- an input of this kind is refused at the line of this number, from 1, with the refusal's name behind a blank (32)
+-- an input of this kind is refused at the line of this number, from 1, with the refusal's name behind a blank
 abbrev pub refused_line : List ℕ → ℕ → List ℕ → Output
-refused_line kind number name = refused (kind ++ 32 ∷ (decimal number ++ 32 ∷ name))
+refused_line kind number name = refused (kind ++ codes " " ++ decimal number ++ codes " " ++ name)
 
 -- the place of the first refusal, a blank and its name
 abbrev pub refused_script : Refusal → Output
-refused_script refusal = refused (codes "script " ++ (place_text refusal.1 ++ 32 ∷ kind_name refusal.0))
+refused_script refusal = refused (codes "script " ++ (place_text refusal.1 ++ codes " " ++ kind_name refusal.0))
 
 -- goes on with the script in a file of these bytes, or says its first refusal
 abbrev pub script_then : List ℕ → (List StatementTree → CommandPlan) → CommandPlan

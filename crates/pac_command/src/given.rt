@@ -3,6 +3,7 @@ ghost use Rattle.std.specs.Prelude.{◌≡◌, ◌≤◌, ℤ};
 ghost use Rattle.std.specs.Option.{ForSome};
 ghost use Rattle.pac_words.specs.Views.{running_view};
 ghost use Rattle.pac_command.specs.Begun.{IsMoment, given_at};
+ghost use Rattle.pac_calendar.specs.declared.showing.TheConstants.{LAST_MOMENT};
 
 use pac_calendar::Zone;
 use pac_functions::PacSettings;
@@ -38,7 +39,7 @@ pub(crate) fn given_by<C: Clock>(running: &Running, clock: &mut C) -> Given
 
 // The moment, in seconds since 1970 in UTC.
 fn moment<C: Clock>(now: Option<u64>, clock: &mut C) -> i64
-    requires { ForSome now (λ seconds. seconds ≤ 253_370_764_799) }
+    requires { ForSome now (λ seconds. seconds ≤ LAST_MOMENT) }
     ensures { IsMoment now (C.told clock.old) result (C.told clock.new) }
 {
     match now {

@@ -6,6 +6,7 @@ ghost use Rattle.pac_command.specs.Steps.{IsStep, items_of};
 ghost use Rattle.pac_command.specs.Scripts.{script_from, script_then};
 ghost use Rattle.pac_command.specs.Names as spec;
 ghost use Rattle.pac_command.specs.Names.{names_from, names_then};
+ghost use Rattle.utf16_text.specs.declared.limits.TheConstants.{LONGEST_FILE};
 
 use crate::Status;
 use crate::early::Early;
@@ -17,10 +18,7 @@ use js_tree::{ReadAnswer, Script};
 use pac_plan::line;
 use pac_ports::{Files, FilesAnswer};
 use std::alloc::Global;
-use utf16_text::{Memory, Text};
-
-/// How many bytes a file has at most.
-const FILE_LIMIT: usize = 1_048_576;
+use utf16_text::{LONGEST_FILE, Memory, Text};
 
 /// The bytes of the file of this kind and name.
 pub(crate) fn read_file<F: Files>(
@@ -31,9 +29,9 @@ pub(crate) fn read_file<F: Files>(
 ) -> Result<Vec<u8>, Early>
     ensures step { (o : Outside) → IsStep (read kind.now name.now)
         (record o { files = F.state files.old }) (items_of result) (record o { files = F.state files.new }) }
-    ensures within { IfOk result (λ bytes. length bytes.items ≤ 1048576) }
+    ensures within { IfOk result (λ bytes. length bytes.items ≤ LONGEST_FILE) }
 {
-    match files.read_all(alloc, name, FILE_LIMIT) {
+    match files.read_all(alloc, name, LONGEST_FILE) {
         Ok(bytes) => Ok(bytes),
         Err(FilesAnswer::Failed) => {
             let output = line(alloc, Status::ReadFault, "fault read ", kind, "")?;
@@ -62,7 +60,7 @@ pub(crate) fn read_script_file<F: Files>(
 
 /// The script that these bytes spell.
 fn script_in(alloc: Global, bytes: &[u8]) -> Result<Script, Early>
-    requires { length bytes.now ≤ 1048576 }
+    requires { length bytes.now ≤ LONGEST_FILE }
     ensures { (o : Outside) → IsStep (script_then bytes.now) o result o }
 {
     let source = decoded(alloc, bytes)?;
@@ -100,7 +98,7 @@ pub(crate) fn read_names_file<F: Files>(
 
 /// The answers that these bytes tell.
 fn answers_in(alloc: Global, bytes: &[u8]) -> Result<AnswerTable, Early>
-    requires { length bytes.now ≤ 1048576 }
+    requires { length bytes.now ≤ LONGEST_FILE }
     ensures { (o : Outside) → IsStep (names_then bytes.now) o result o }
 {
     match read_names(alloc, bytes) {

@@ -8,6 +8,7 @@ ghost use Rattle.batch_text.specs.View.{seen_of};
 ghost use Rattle.pac_command.specs.Steps.{IsStep};
 ghost use Rattle.pac_command.specs.Urls as spec;
 ghost use Rattle.pac_command.specs.Urls.{batch_then, entries_for, seen_batch, url_then, urls_from};
+ghost use Rattle.utf16_text.specs.declared.limits.TheConstants.{LONGEST_FILE};
 
 use crate::early::Early;
 use crate::given::Given;
@@ -64,7 +65,7 @@ fn only(alloc: Global, line: BatchLine) -> Result<Batch, Memory>
 
 /// The batch of these bytes.
 fn batch_in(alloc: Global, bytes: &[u8], given: &Given) -> Result<Batch, Early>
-    requires { length bytes.now ≤ 1048576 }
+    requires { length bytes.now ≤ LONGEST_FILE }
     ensures { (o : Outside) → IsStep (batch_then given.now bytes.now) o (seen_batch result) o }
 {
     match read_batch(alloc, bytes, given.start) {

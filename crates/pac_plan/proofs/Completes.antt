@@ -6,9 +6,10 @@ use Rattle.pac_ports.specs.Files.{FilesState, FilesTold, content_of, HasRead}
 use Rattle.pac_ports.specs.declared.files.FilesAnswer.{FilesAnswer}
 use Rattle.pac_ports.specs.declared.files.FilesAnswer.TheVariants as why
 use Rattle.pac_ports.specs.declared.link.Move.{Move}
-use Rattle.pac_plan.specs.Plan.{Output, Plan, say, run, read, talk, Outside, End, whole, faulted, unfinished, Talks, file_limit, read_fault, too_long}
+use Rattle.pac_plan.specs.Plan.{Output, Plan, say, run, read, talk, Outside, End, whole, faulted, unfinished, Talks, read_fault, too_long}
 use Rattle.pac_plan.specs.Follows.{IsUnlessMemory, GoesOn, TalkSays, Follows}
 use Rattle.pac_plan.specs.Complete.{Contents, by_content, output_at, talk_at, reached, with_run, with_file_read, Arrives}
+use Rattle.utf16_text.specs.declared.limits.TheConstants.{LONGEST_FILE}
 
 -- the plan's answer at these contents, with a log to which it came
 pub record ComesTo {T : Type 0} (K : Talks T) (plan : Plan T) (c : Contents) (old new : Outside) (answer : Output) : Type 0 where
@@ -32,16 +33,16 @@ told_content : (told : Option FilesTold) (t : FilesTold) (name : List ℕ) (P : 
 told_content told t name P is h = subst (λ (o : Option FilesTold). IfSome o (λ f. P (content_of name f.contents))) is h
 
 -- the choice at a content that is read
-pub choice_read : {A : Type 0} (absent long : A) (next : List ℕ → A) (o : Option (List ℕ)) (bytes : List ℕ) → o ≡ Some bytes → length bytes ≤ file_limit → by_content absent long next o ≡ next bytes
+pub choice_read : {A : Type 0} (absent long : A) (next : List ℕ → A) (o : Option (List ℕ)) (bytes : List ℕ) → o ≡ Some bytes → length bytes ≤ LONGEST_FILE → by_content absent long next o ≡ next bytes
 choice_read absent long next o bytes is fits =
-    let test : nat_le (length bytes) file_limit ≡ true = grind (arith, nat_tests) in
+    let test : nat_le (length bytes) LONGEST_FILE ≡ true = grind (arith, nat_tests) in
     rw (is, test) refl
 
 -- and at one that is too long
-pub choice_long : {A : Type 0} (absent long : A) (next : List ℕ → A) (o : Option (List ℕ)) → IsSomeAnd o (λ content. file_limit < length content) → by_content absent long next o ≡ long
+pub choice_long : {A : Type 0} (absent long : A) (next : List ℕ → A) (o : Option (List ℕ)) → IsSomeAnd o (λ content. LONGEST_FILE < length content) → by_content absent long next o ≡ long
 choice_long absent long next None h = absurd h
 choice_long absent long next (Some bytes) h =
-    let test : nat_le (length bytes) file_limit ≡ false = grind (arith, nat_tests) in
+    let test : nat_le (length bytes) LONGEST_FILE ≡ false = grind (arith, nat_tests) in
     rw test refl
 
 -- the end without a talk
@@ -56,13 +57,13 @@ ends K plan c old mid new answer made none there at is says = if_some made (λ a
 comes_read : {T : Type 0} (K : Talks T) (kind name : List ℕ) (next : List ℕ → Plan T) (old new : Outside) (made : Option Output) (told : FilesTold) (found : Result (List ℕ) FilesAnswer) (files : FilesState)
     → ((bytes : List ℕ) (mid : Outside) (now : FilesTold) → mid.files.told ≡ Some now → (Rose mid.files.faults new.files.faults → ⊥) → (Rose mid.link.faults new.link.faults → ⊥) → Follows K (next bytes) mid new made → Comes K (next bytes) now.contents mid new made)
     → old.files.told ≡ Some told → (Rose old.files.faults new.files.faults → ⊥) → (Rose old.link.faults new.link.faults → ⊥)
-    → HasRead old.files name file_limit found files
+    → HasRead old.files name LONGEST_FILE found files
     → GoesOn kind found (λ bytes mid. Follows K (next bytes) mid new made) (record old { files = files }) new made
     → Comes K (read kind name next) told.contents old new made
 comes_read K kind name next old new made told (Err why.Failed) files rest is quiet_files quiet_link h goes =
     absurd (quiet_files (subst (λ (o : Outside). Rose old.files.faults o.files.faults) (sym goes.0) h.rose))
 comes_read K kind name next old new made told (Err why.TooLong) files rest is quiet_files quiet_link h goes =
-    let longer = told_content old.files.told told name (λ o. IsSomeAnd o (λ content. file_limit < length content)) is h.longer in
+    let longer = told_content old.files.told told name (λ o. IsSomeAnd o (λ content. LONGEST_FILE < length content)) is h.longer in
     let o = content_of name told.contents in
     ends K (read kind name next) told.contents old (with_file_read name false old) new (too_long kind) made
     (choice_long None None (λ bytes. talk_at (next bytes) told.contents) o longer)

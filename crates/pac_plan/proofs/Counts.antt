@@ -6,9 +6,10 @@ use Rattle.pac_ports.specs.Link.{has_move}
 use Rattle.pac_ports.specs.declared.files.FilesAnswer.{FilesAnswer}
 use Rattle.pac_ports.specs.declared.files.FilesAnswer.TheVariants as why
 use Rattle.pac_ports.specs.declared.link.Move.{Move}
-use Rattle.pac_plan.specs.Plan.{Output, Plan, say, run, read, talk, Outside, End, whole, faulted, unfinished, Talks, CountsFaults, file_limit, read_fault, link_fault}
+use Rattle.pac_plan.specs.Plan.{Output, Plan, say, run, read, talk, Outside, End, whole, faulted, unfinished, Talks, CountsFaults, read_fault, link_fault}
 use Rattle.pac_plan.specs.Follows.{IsUnlessMemory, GoesOn, TalkSays, Follows}
 use Rattle.pac_plan.specs.Complete.{IsSureOfNames}
+use Rattle.utf16_text.specs.declared.limits.TheConstants.{LONGEST_FILE}
 
 -- no count rose
 pub record IsQuiet (old new : Outside) : Type 0 where
@@ -46,7 +47,7 @@ after_read kind name bytes next old new made failed (inr (inr link)) = inr (inr 
 
 counted_read : {T : Type 0} (K : Talks T) (kind name : List ℕ) (next : List ℕ → Plan T) (old new : Outside) (made : Option Output) (found : Result (List ℕ) FilesAnswer) (files : FilesState)
     → ((bytes : List ℕ) (mid : Outside) → Follows K (next bytes) mid new made → Counted (next bytes) mid new made)
-    → HasRead old.files name file_limit found files
+    → HasRead old.files name LONGEST_FILE found files
     → GoesOn kind found (λ bytes mid. Follows K (next bytes) mid new made) (record old { files = files }) new made
     → Counted (read kind name next) old new made
 counted_read K kind name next old new made (Ok bytes) files rest h goes =

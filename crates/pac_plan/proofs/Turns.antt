@@ -3,10 +3,11 @@ use Rattle.std.proofs.Common.{◌≡◌, ℕ, ◌+◌, true, false, List, [], �
 use Rattle.pac_ports.specs.Files.{FilesState, FilesTold, Read, content_of, with_read, HasRead}
 use Rattle.pac_ports.specs.declared.files.FilesAnswer.{FilesAnswer}
 use Rattle.pac_ports.specs.declared.files.FilesAnswer.TheVariants as why
-use Rattle.pac_plan.specs.Plan.{Output, Plan, say, run, read, talk, Outside, Talks, file_limit}
+use Rattle.pac_plan.specs.Plan.{Output, Plan, say, run, read, talk, Outside, Talks}
 use Rattle.pac_plan.specs.Follows.{GoesOn, Follows}
 use Rattle.pac_plan.specs.Order.{names_at, FailsAtTheLast, ReadsInTurn}
 use Rattle.pac_plan.proofs.Completes.{choice_read}
+use Rattle.utf16_text.specs.declared.limits.TheConstants.{LONGEST_FILE}
 
 -- no read more
 none_more : (names : List (List ℕ)) (told : FilesTold) (now : Option FilesTold) → now ≡ Some told → ReadsInTurn names told now
@@ -48,7 +49,7 @@ content_read files told name bytes is h = subst (λ (o : Option FilesTold). IfSo
 
 read_turn : {T : Type 0} (K : Talks T) (kind name : List ℕ) (next : List ℕ → Plan T) (old new : Outside) (made : Option Output) (told : FilesTold) (found : Result (List ℕ) FilesAnswer) (files : FilesState)
     → ((bytes : List ℕ) (mid : Outside) (now : FilesTold) → mid.files.told ≡ Some now → Follows K (next bytes) mid new made → ReadsInTurn (names_at (next bytes) now.contents) now new.files.told)
-    → old.files.told ≡ Some told → HasRead old.files name file_limit found files
+    → old.files.told ≡ Some told → HasRead old.files name LONGEST_FILE found files
     → GoesOn kind found (λ bytes mid. Follows K (next bytes) mid new made) (record old { files = files }) new made
     → ReadsInTurn (names_at (read kind name next) told.contents) told new.files.told
 read_turn K kind name next old new made told (Ok bytes) files rest is h goes =

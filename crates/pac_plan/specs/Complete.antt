@@ -5,9 +5,10 @@ use Rattle.pac_ports.specs.Files.{FilesTold, content_of, is_listed, with_read}
 use Rattle.pac_ports.specs.Link.{has_move}
 use Rattle.pac_ports.specs.Sink.{SinkState, with_bytes, has_room}
 use Rattle.pac_ports.specs.declared.link.Move.{Move}
-use Rattle.pac_plan.specs.Plan.{Output, Plan, say, run, read, talk, Outside, whole, Talks, file_limit, read_fault, too_long}
+use Rattle.pac_plan.specs.Plan.{Output, Plan, say, run, read, talk, Outside, whole, Talks, read_fault, too_long}
 use Rattle.pac_plan.specs.declared.status.Status.{Status}
 use Rattle.pac_plan.specs.declared.status.Status.TheVariants as status
+use Rattle.utf16_text.specs.declared.limits.TheConstants.{LONGEST_FILE}
 
 -- names with their contents, as files tell them
 abbrev pub Contents : Type 0
@@ -16,7 +17,7 @@ Contents = List (List ℕ × List ℕ)
 -- the choice by a content: absent, longer than the limit, or read
 abbrev pub by_content : {A : Type 0} → A → A → (List ℕ → A) → Option (List ℕ) → A
 by_content absent long next None = absent
-by_content absent long next (Some bytes) = if nat_le (length bytes) file_limit then next bytes else long
+by_content absent long next (Some bytes) = if nat_le (length bytes) LONGEST_FILE then next bytes else long
 
 -- the answer, where the talk has this log
 abbrev pub output_at : {T : Type 0} → Plan T → Contents → List Move → Output

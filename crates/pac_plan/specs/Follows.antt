@@ -6,9 +6,10 @@ use Rattle.pac_ports.specs.declared.files.FilesAnswer.TheVariants as why
 use Rattle.pac_ports.specs.Clock.{with_moment}
 use Rattle.pac_ports.specs.Sink.{SinkState, with_bytes, PutFails}
 use Rattle.pac_ports.specs.declared.link.Move.{Move}
-use Rattle.pac_plan.specs.Plan.{Output, Plan, say, run, read, talk, Program, at_once, timed, Outside, End, whole, faulted, unfinished, Talks, file_limit, read_fault, too_long, link_fault}
+use Rattle.pac_plan.specs.Plan.{Output, Plan, say, run, read, talk, Program, at_once, timed, Outside, End, whole, faulted, unfinished, Talks, read_fault, too_long, link_fault}
 use Rattle.pac_plan.specs.declared.status.Status.{Status}
 use Rattle.pac_plan.specs.declared.status.Status.TheVariants as status
+use Rattle.utf16_text.specs.declared.limits.TheConstants.{LONGEST_FILE}
 
 -- the answer that was made is this one, unless memory ran out
 abbrev pub IsUnlessMemory : Output → Option Output → Type 0
@@ -35,7 +36,7 @@ TalkSays unfinished answer made = made ≡ None
 abbrev pub Follows : {T : Type 0} → Talks T → Plan T → Outside → Outside → Option Output → Type 0
 Follows K (say answer) old new made = (new ≡ old) × IsUnlessMemory answer made
 Follows K (run plan) old new made = Follows K plan (record old { runs = old.runs + 1 }) new made ⊎ ((new ≡ old) × (made ≡ None))
-Follows K (read kind name next) old new made = (found : Result (List ℕ) FilesAnswer) × (files : FilesState) × HasRead old.files name file_limit found files
+Follows K (read kind name next) old new made = (found : Result (List ℕ) FilesAnswer) × (files : FilesState) × HasRead old.files name LONGEST_FILE found files
     × GoesOn kind found (λ bytes mid. Follows K (next bytes) mid new made) (record old { files = files }) new made
 Follows K (talk t answer) old new made = (end : End) × (log : List Move) × K.Talked t old end log new × TalkSays end (answer log) made
 

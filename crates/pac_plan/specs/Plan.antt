@@ -61,10 +61,6 @@ pub record Talks (T : Type 0) : Type 1 where
   pub counted : (t : T) (old : Outside) (end : End) (log : List Move) (new : Outside) → Talked t old end log new → CountsFaults end old.link new.link
   pub not_begun : (t : T) (old : Outside) → Talked t old unfinished [] old
 
--- at most so many bytes in a file
-abbrev pub file_limit : ℕ
-file_limit = 1048576
-
 -- a line of text
 abbrev pub line : List ℕ → List ℕ
 line text = text ++ 10 ∷ []

@@ -1,6 +1,7 @@
 // What the words ask for.
 ghost use Rattle.std.specs.Prelude.{◌<◌, ◌≤◌};
 ghost use Rattle.std.specs.Option.{ForSome};
+ghost use Rattle.pac_calendar.specs.declared.showing.TheConstants.{LAST_MOMENT};
 
 use pac_calendar::Zone;
 use pac_ports::Server;
@@ -26,7 +27,7 @@ pub struct Running {
     pub zone: Zone,
     /// The moment, in seconds since 1970 in UTC, where it isn't the clock's.
     pub now: Option<u64>,
-    ghost now_within: { ForSome now (λ seconds. seconds ≤ 253_370_764_799) },
+    ghost now_within: { ForSome now (λ seconds. seconds ≤ LAST_MOMENT) },
 }
 
 /// One URL, or a file of many.

@@ -16,22 +16,23 @@ ghost use Rattle.pac_words.specs.Commands.{
   number_given,
 };
 ghost use Rattle.pac_words.specs.Views.{asking_view, running_view, source_view, command_view, given_in};
+ghost use Rattle.pac_calendar.specs.declared.showing.TheConstants.{LAST_MOMENT};
 
 use crate::command::{Asking, Command, Running, Source};
 use crate::number::{number, number_or};
 use crate::parse::value;
 use crate::quad::{LOCAL, quad_or, server_or};
 use clap::ArgMatches;
-use pac_calendar::{Zone, read_zone};
+use pac_calendar::{LAST_MOMENT, Zone, read_zone};
 
 // The moment of an option `--now`; the inner None is the clock's.
 fn moment(text: Option<&str>) -> Option<Option<u64>>
     ensures moment { result ≡ now_of (option_map (λ t. t.now) text.entry) }
-    ensures within { IfSome result (λ now. ForSome now (λ seconds. seconds ≤ 253_370_764_799)) }
+    ensures within { IfSome result (λ now. ForSome now (λ seconds. seconds ≤ LAST_MOMENT)) }
 {
     match text {
         None => Some(None),
-        Some(text) => match number(text, 0, 253_370_764_799) {
+        Some(text) => match number(text, 0, LAST_MOMENT) {
             None => None,
             Some(now) => Some(Some(now)),
         },

@@ -18,4 +18,4 @@ pub use laws::{
     runs_are_restartable, sent_as_due, told_grows, told_was_sent, unanswered_stays,
 };
 pub use question::Question;
-pub use terms::{FLOOD, NAMES, Terms};
+pub use terms::{FLOOD, Terms};

@@ -3,9 +3,6 @@
 /// How many datagrams without a tick among them are a beat.
 pub const FLOOD: u64 = 4096;
 
-/// How many names one run asks at most.
-pub const NAMES: u64 = 32;
-
 /// How many beats pass from one sending of a question to the next, and how many sendings there are.
 #[derive(Clone, Copy, Debug, PartialEq, Eq)]
 pub struct Terms {

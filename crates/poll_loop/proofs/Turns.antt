@@ -6,7 +6,7 @@ use Rattle.pac_ports.specs.Dice.{DiceTold}
 use Rattle.pac_ports.specs.Link.{LinkFails, LinkState, has_move, with_moves as adding, with_open}
 use Rattle.pac_ports.specs.declared.link.Move.{Move}
 use Rattle.pac_ports.specs.declared.link.Move.TheVariants as move
-use Rattle.poll_log.specs.declared.terms.TheConstants.{FLOOD, NAMES}
+use Rattle.poll_log.specs.declared.terms.TheConstants.{FLOOD}
 use Rattle.poll_log.specs.Turns.{Turns, Begin, Then, Event, turns_of, with_moves, with_sent}
 use Rattle.poll_log.specs.declared.terms.Terms.{Terms}
 use Rattle.poll_log.specs.declared.question.Question.{Question}
@@ -34,6 +34,7 @@ use Rattle.poll_log.specs.Told.{is_dead}
 use Rattle.poll_log.specs.Jobs.{is_waiting, waits_unless}
 use Rattle.std.proofs.lemmas.List.{length-map}
 use Rattle.poll_loop.proofs.Waiting.{waits_begin, waits_then}
+use Rattle.pac_names.specs.declared.limits.TheConstants.{MOST_NAMES}
 
 -- the outside with these
 abbrev pub with_all : Outside → LinkState → Option DiceTold → ℕ → Outside
@@ -236,12 +237,12 @@ module _ (talk : Talk) (Stands : Turns → Type 0) (old : Outside) (link : LinkS
   )
 
   -- after so many events nobody waits
-  pub ended_by_bound : FLOOD * (NAMES * limit talk.task.terms) ≤ count → (log : List Move) × Talked talk old whole log (with_all old link dice runs) × Stands (turns_of log)
+  pub ended_by_bound : FLOOD * (MOST_NAMES * limit talk.task.terms) ≤ count → (log : List Move) × Talked talk old whole log (with_all old link dice runs) × Stands (turns_of log)
   ended_by_bound high = ended_whole (go (some_wait talk.task.terms talk.task.jobs (turns_of r.moves)) refl)
     where
       go : (b : Bool) → some_wait talk.task.terms talk.task.jobs (turns_of r.moves) ≡ b → b ≡ false
       go true w =
-          let few = (bounded NAMES talk.task.terms talk.task.jobs (turns_of r.moves) r.sound.restartable r.sends r.waits).waiting w in
+          let few = (bounded MOST_NAMES talk.task.terms talk.task.jobs (turns_of r.moves) r.sound.restartable r.sends r.waits).waiting w in
           absurd (let c = r.counted in omega arith)
       go false w = refl
 

@@ -7,7 +7,6 @@ use Rattle.std.proofs.lemmas.List.Elements.{All-head, All-nil, All-tail, All-tak
 use Rattle.pac_names.specs.declared.answer.Answer.{Answer}
 use Rattle.poll_log.specs.declared.question.Question.{Question}
 use Rattle.poll_log.specs.declared.terms.Terms.{Terms}
-use Rattle.poll_log.specs.declared.terms.TheConstants.{NAMES}
 use Rattle.poll_log.specs.Turns.{Turns, Begin, Then, Event}
 use Rattle.poll_log.specs.Beats.{is_beat}
 use Rattle.poll_log.specs.Questions.{IsQuestion, asked_in, octets_of, firsts, questions, names_of, new_among, same_name, has_name, was_sent}
@@ -21,6 +20,7 @@ use mathlib.Core.Path.{fun_ext}
 use Rattle.poll_log.proofs.Bounds.{alive_if_young, extends_next}
 use Rattle.poll_log.proofs.Dues.{again_are, all_proper, firsts_next, firsts_of_begin, firsts_proper, fresh_new, sent_as_due}
 use Rattle.poll_log.proofs.TurnLaws.{age_next, age_unsent, due_begin, due_next, due_unsent, falls_due, firsts-begin, firsts-then, told_by_event, told-begin}
+use Rattle.pac_names.specs.declared.limits.TheConstants.{MOST_NAMES}
 
 -- What is wanted.
 module _ (M : Map) (dead : List ℕ → Bool) (n : List ℕ) (alive : dead n ≡ false) where
@@ -48,12 +48,12 @@ once_wanted seen (n ∷ ns) m h = go (has n seen) (λ k. once_wanted seen ns m k
         same true h = refl
         same false h = behind h
 
-wanted_stays : (jobs : List Job) (N M : Map) (n : List ℕ) → All (IsRestartable NAMES) jobs → Extends N M → N n ≡ None → has n (wanted jobs M) ≡ true → has n (wanted jobs N) ≡ true
+wanted_stays : (jobs : List Job) (N M : Map) (n : List ℕ) → All (IsRestartable MOST_NAMES) jobs → Extends N M → N n ≡ None → has n (wanted jobs M) ≡ true → has n (wanted jobs N) ≡ true
 wanted_stays [] N M n laws x u h = h
-wanted_stays (job ∷ jobs) N M n laws x u h = go (job M) refl (λ k. wanted_stays jobs N M n (All-tail (IsRestartable NAMES) job jobs laws) x u k) h
+wanted_stays (job ∷ jobs) N M n laws x u h = go (job M) refl (λ k. wanted_stays jobs N M n (All-tail (IsRestartable MOST_NAMES) job jobs laws) x u k) h
   where
-    law : IsRestartable NAMES job
-    law = All-head (IsRestartable NAMES) job jobs laws
+    law : IsRestartable MOST_NAMES job
+    law = All-head (IsRestartable MOST_NAMES) job jobs laws
 
     behind : (r : Option (List ℕ)) → has n (wanted jobs N) ≡ true → has n (cons_option r (wanted jobs N)) ≡ true
     behind None h = h
@@ -74,7 +74,7 @@ split_or true y h = inl refl
 split_or false y h = inr h
 
 -- a name that was sent and is not told is wanted
-module _ (t : Terms) (jobs : List Job) (laws : All (IsRestartable NAMES) jobs) where
+module _ (t : Terms) (jobs : List Job) (laws : All (IsRestartable MOST_NAMES) jobs) where
   fresh_wanted : (before fresh : List Question) (M : Map) (n : List ℕ) → names_of fresh ≡ once (names_of before) (wanted jobs M) → has_name n fresh ≡ true → has n (wanted jobs M) ≡ true
   fresh_wanted before fresh M n asks h = once_wanted (names_of before) (wanted jobs M) n (ap (has n) (sym asks) ∙ has-names n fresh ∙ h)
 
@@ -171,7 +171,7 @@ module _ (t : Terms) (before fresh : List Question) (new : AllNew before fresh) 
       (ap (has_name q.name) (f ∙ ap (λ l. before ++ new_among before l) (asked_in-octets pre proper) ∙ ap (λ l. before ++ l) (ap (new_among before) (sym (append-nil pre)) ∙ new_among-new before pre [] r.0 tt)) ∙ r.1)
 
 -- Something is still to be sent in a later turn.
-module _ (t : Terms) (jobs : List Job) (w : 0 < t.wait) (r : 0 < t.tries) (laws : All (IsRestartable NAMES) jobs) where
+module _ (t : Terms) (jobs : List Job) (w : 0 < t.wait) (r : 0 < t.tries) (laws : All (IsRestartable MOST_NAMES) jobs) where
   module _ (h : Turns) (e : Event) (sent : List (List ℕ)) (o : SendsOwed t jobs h) (now : IsOwed t jobs (questions h) (firsts h) (Then h e sent) sent) where
     falling : now.again ≡ filter (λ q. falls_due t h e q.name) (firsts h ++ now.fresh)
     falling =

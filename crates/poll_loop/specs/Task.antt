@@ -3,12 +3,12 @@ use Rattle.std.specs.Prelude.{◌≡◌, ℕ, ◌<◌, IsTrue, Some, List}
 use Rattle.std.specs.List.{All}
 use Rattle.pac_names.specs.Names.{is_lookup_name}
 use Rattle.pac_ports.specs.declared.link.Server.{Server}
-use Rattle.poll_log.specs.declared.terms.TheConstants.{NAMES}
 use Rattle.poll_log.specs.declared.terms.Terms.{Terms}
 use Rattle.poll_log.specs.Turns.{Turns, with_sent}
 use Rattle.poll_log.specs.Told.{Map}
 use Rattle.poll_log.specs.Jobs.{Job}
 use Rattle.poll_log.specs.Laws.{IsRestartable}
+use Rattle.pac_names.specs.declared.limits.TheConstants.{MOST_NAMES}
 
 pub record Task : Type 0 where
   -- when a question is sent again, and when it is given up
@@ -36,6 +36,6 @@ pub record AreFinite (terms : Terms) : Type 0 where
 pub record IsSound (task : Task) : Type 0 where
   pub terms : AreFinite task.terms
   pub named : All AsksLookupNames task.jobs
-  pub restartable : All (IsRestartable NAMES) task.jobs
+  pub restartable : All (IsRestartable MOST_NAMES) task.jobs
   -- what is sent in a turn costs no run
   pub unsent_runs : (turns : Turns) (sent : List (List ℕ)) → task.runs (with_sent turns sent) ≡ task.runs turns

@@ -14,7 +14,8 @@ use crate::Poller;
 use crate::event::event_in;
 use crate::sending::send_all;
 use pac_ports::{Dice, Failed, Link, Server};
-use poll_log::{FLOOD, NAMES, Question, Terms};
+use pac_names::MOST_NAMES;
+use poll_log::{FLOOD, Question, Terms};
 use std::alloc::Global;
 use std::sync::ledger::Ledger;
 use step_counter::Steps;
@@ -61,7 +62,7 @@ pub fn poll<P: Poller, N: Link, D: Dice, L: Ledger>(
         return Err(Stop::Link);
     };
     let Terms { wait, tries } = asking.terms;
-    for _turn in 0..FLOOD * NAMES * (wait * tries) as u64 {
+    for _turn in 0..FLOOD * MOST_NAMES as u64 * (wait * tries) as u64 {
         if poller.ended() {
             return Ok(());
         }

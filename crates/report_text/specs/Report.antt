@@ -54,12 +54,12 @@ has_detail code.Unsupported = true
 has_detail code.Uncaught = true
 has_detail c = false
 
--- line and column, parted by a colon (58)
+-- line and column, parted by a colon
 abbrev pub place_text : Place → List ℕ
-place_text place = decimal place.line ++ 58 ∷ decimal place.column
+place_text place = decimal place.line ++ codes ":" ++ decimal place.column
 
 abbrev pub detail_text : Fault → List ℕ
-detail_text fault = if has_detail fault.code then 32 ∷ escaped false fault.detail else []
+detail_text fault = if has_detail fault.code then codes " " ++ escaped false fault.detail else []
 
 abbrev pub fault_text : Fault → List ℕ
 fault_text fault = fault_name fault.code ++ codes " at " ++ place_text fault.place ++ detail_text fault
@@ -79,7 +79,7 @@ end_lines (done outcome) = flat_map alert_line outcome.alerts ++ ending_line out
 end_lines (unanswered name) = line (codes "unanswered " ++ name)
 
 abbrev pub url_line : ℕ → List ℕ → List ℕ
-url_line number url = line (codes "url " ++ decimal number ++ 32 ∷ escaped false url)
+url_line number url = line (codes "url " ++ decimal number ++ codes " " ++ escaped false url)
 
 abbrev pub runs_line : ℕ → List ℕ
 runs_line runs = line (codes "runs " ++ decimal runs)

@@ -6,19 +6,20 @@ use Rattle.std.proofs.lemmas.Bool.{leb-false}
 use Rattle.std.proofs.lemmas.Map.Keys.{IsDistinct-push}
 use Rattle.utf16_text.specs.Comparing.{numbers_equal}
 use Rattle.js_host.specs.Answers.{Name, AnswerMap}
-use Rattle.js_host.specs.Seen.{most_names, was_asked}
+use Rattle.js_host.specs.Seen.{was_asked}
 use Rattle.run_trees.specs.RunTree.{RunTree, Done, Ask, Tell}
 use Rattle.run_trees.specs.WholeRun.{rest_of_run, reply_of, asked_with}
 use Rattle.run_trees.specs.Laws.{AreFew}
+use Rattle.pac_names.specs.declared.limits.TheConstants.{MOST_NAMES}
 
-few_by : (asked : List Name) (name : Name) → AreFew asked → (many : Bool) → nat_le most_names (length asked) ≡ many
+few_by : (asked : List Name) (name : Name) → AreFew asked → (many : Bool) → nat_le MOST_NAMES (length asked) ≡ many
     → (was : Bool) → was_asked asked name ≡ was
     → AreFew (if many && not was then asked else (if was then asked else asked ++ name ∷ []))
 few_by asked name few true m true w = few
 few_by asked name few true m false w = few
 few_by asked name few false m true w = few
 few_by asked name few false m false w =
-    let room : length asked < most_names = leb-false most_names (length asked) m in
+    let room : length asked < MOST_NAMES = leb-false MOST_NAMES (length asked) m in
     record {
       distinct = IsDistinct-push numbers_equal asked name few.distinct w;
       few = rw (length-append asked (name ∷ [])) (omega arith);
@@ -31,7 +32,7 @@ few-rest all (Done end) asked few = few
 few-rest all (Tell text next) asked few = few-rest all next asked few
 few-rest all (Ask name next) asked few =
     few-rest all (next (reply_of all asked name)) (asked_with asked name)
-    (few_by asked name few (nat_le most_names (length asked)) refl (was_asked asked name) refl)
+    (few_by asked name few (nat_le MOST_NAMES (length asked)) refl (was_asked asked name) refl)
 
 pub few-none : AreFew []
 unfolding IsDistinct

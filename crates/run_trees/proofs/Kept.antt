@@ -3,7 +3,8 @@ use Rattle.std.proofs.Common.{◌≡◌, ℕ, ◌<◌, ◌≤◌, refl, ap, sym,
 use Rattle.std.specs.Prelude.{map, nat_lt, min}
 use Rattle.std.proofs.lemmas.Bool.{ltb-true, ltb-false}
 use Rattle.std.proofs.lemmas.List.{length-map, length-take, map-append, take_all, take-append-le}
-use Rattle.js_host.specs.Seen.{with_alert, kept_alerts, most_alerts, most_units}
+use Rattle.js_host.specs.Seen.{with_alert, kept_alerts}
+use Rattle.js_host.specs.declared.limits.TheConstants.{MOST_ALERTS, MOST_UNITS}
 
 -- of a list, the first n, each changed by f
 abbrev kept : {A B : Type 0} → (A → B) → ℕ → List A → List B
@@ -28,4 +29,4 @@ kept_by f n all one false e =
 pub with_alert-kept : (all : List (List ℕ)) (text : List ℕ)
     → with_alert (kept_alerts all) text ≡ kept_alerts (all ++ text ∷ [])
 with_alert-kept all text =
-    kept_by (take most_units) most_alerts all text (nat_lt (length (kept_alerts all)) most_alerts) refl
+    kept_by (take MOST_UNITS) MOST_ALERTS all text (nat_lt (length (kept_alerts all)) MOST_ALERTS) refl

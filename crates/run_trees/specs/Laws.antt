@@ -3,14 +3,15 @@ use Rattle.std.specs.Prelude.{◌≡◌, ◌≤◌, ℕ, List, length, Option, S
 use Rattle.std.specs.List.{All, IsDistinct}
 use Rattle.std.specs.Str.{bytes_eq}
 use Rattle.js_host.specs.Answers.{Name, AnswerMap, Extends, Knowledge, Completes, answer_in, first_missing, partly, wholly}
-use Rattle.js_host.specs.Seen.{Seen, Reply, Replies, Lacks, looked_up, alerted, kept_alerts, fresh, most_names}
+use Rattle.js_host.specs.Seen.{Seen, Reply, Replies, Lacks, looked_up, alerted, kept_alerts, fresh}
 use Rattle.run_trees.specs.RunTree.{RunTree, Done, Ask, Tell, Walked, Ended, Stopped, walk}
 use Rattle.run_trees.specs.WholeRun.{asked_names, names_to, whole_run}
+use Rattle.pac_names.specs.declared.limits.TheConstants.{MOST_NAMES}
 
 -- distinct names, of which a run may ask so many
 pub record AreFew (names : List Name) : Type 0 where
   pub distinct : IsDistinct bytes_eq names
-  pub few : length names ≤ most_names
+  pub few : length names ≤ MOST_NAMES
 
 -- The names that a run asks are distinct, and at most as many as it may ask.
 abbrev pub AsksFewNames : Type 0 → Type 0

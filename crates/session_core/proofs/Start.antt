@@ -14,7 +14,7 @@ use Rattle.pac_plan.specs.Plan.{Outside, unfinished}
 use Rattle.pac_ports.specs.Dice.{DiceTold}
 use Rattle.poll_log.specs.declared.question.Question.{Question}
 use Rattle.poll_log.specs.declared.terms.Terms.{Terms}
-use Rattle.poll_log.specs.declared.terms.TheConstants.{FLOOD, NAMES}
+use Rattle.poll_log.specs.declared.terms.TheConstants.{FLOOD}
 use Rattle.poll_log.specs.Turns.{Turns, Begin, with_moves}
 use Rattle.poll_log.specs.Beats.{last_stretch, stretches}
 use Rattle.poll_log.specs.Questions.{asked_in, firsts, names_of, new_among, octets_of}
@@ -51,6 +51,7 @@ use Rattle.poll_loop.specs.Talks.{Talked}
 use Rattle.poll_loop.proofs.Owing.{cut_begin}
 use Rattle.session_core.proofs.Knowing.{dead_still}
 use Rattle.session_core.proofs.Turning.{dead_is, waits_is}
+use Rattle.pac_names.specs.declared.limits.TheConstants.{MOST_NAMES}
 
 module _ {R Out End : Type 0} (gives : Out → End → List (List ℕ) → Type 0) (tree : R → RunTree End) where
   wanted_runs : (M : Map) (all : List R) → wanted (run_jobs tree all) M ≡ missing_of tree M all
@@ -65,9 +66,9 @@ module _ {R Out End : Type 0} (gives : Out → End → List (List ℕ) → Type 
   all_named named [] = All-nil AsksLookupNames
   all_named named (run ∷ all) = All-cons AsksLookupNames (job_of (tree run)) (run_jobs tree all) (named run) (all_named named all)
 
-  all_restart : (all : List R) → All (IsRestartable NAMES) (run_jobs tree all)
-  all_restart [] = All-nil (IsRestartable NAMES)
-  all_restart (run ∷ all) = All-cons (IsRestartable NAMES) (job_of (tree run)) (run_jobs tree all) (run_is_job (tree run)) (all_restart all)
+  all_restart : (all : List R) → All (IsRestartable MOST_NAMES) (run_jobs tree all)
+  all_restart [] = All-nil (IsRestartable MOST_NAMES)
+  all_restart (run ∷ all) = All-cons (IsRestartable MOST_NAMES) (job_of (tree run)) (run_jobs tree all) (run_is_job (tree run)) (all_restart all)
 
   asked_terms : (qs : List Question) (x : StubState) → (asking_all qs x).terms ≡ x.terms
   asked_terms [] x = refl

@@ -8,7 +8,7 @@ use Rattle.std.proofs.lemmas.List.{append-nil}
 use Rattle.std.proofs.lemmas.Slice.Eq.{bytes_eq-Decides}
 use Rattle.pac_names.specs.declared.answer.Answer.{Answer}
 use Rattle.js_host.specs.Answers.{Name, AnswerMap, first_missing, or_no_address, partly}
-use Rattle.js_host.specs.Seen.{is_one_too_many, most_names, was_asked, with_name}
+use Rattle.js_host.specs.Seen.{is_one_too_many, was_asked, with_name}
 use Rattle.run_trees.specs.RunTree.{RunTree, Done, Ask, Tell}
 use Rattle.run_trees.specs.WholeRun.{asked_names, asked_with, reply_of, rest_of_run}
 use Rattle.poll_log.specs.Told.{Map}
@@ -16,6 +16,7 @@ use Rattle.poll_log.specs.Laws.{first_lacking, lacking_or}
 use Rattle.poll_log.proofs.Names.{none_some}
 use Rattle.session_log.specs.Asked.{asked_from, asked_in, reply_in}
 use Rattle.session_log.specs.Laws.{LacksTheFirstMissing}
+use Rattle.pac_names.specs.declared.limits.TheConstants.{MOST_NAMES}
 
 -- ---- over a finite map
 
@@ -95,17 +96,17 @@ asked_more M (Tell text next) asked = asked_more M next asked
 
 -- ---- at most so many
 
-few : (b c : Bool) (asked : List Name) (n : Name) → nat_le most_names (length asked) ≡ b → length asked ≤ most_names → length (cond (b && not c) asked (cond c asked (asked ++ n ∷ []))) ≤ most_names
+few : (b c : Bool) (asked : List Name) (n : Name) → nat_le MOST_NAMES (length asked) ≡ b → length asked ≤ MOST_NAMES → length (cond (b && not c) asked (cond c asked (asked ++ n ∷ []))) ≤ MOST_NAMES
 few true true asked n e low = low
 few true false asked n e low = low
 few false true asked n e low = low
 few false false asked n e low =
-    let room : length asked < most_names = leb-false most_names (length asked) e in
+    let room : length asked < MOST_NAMES = leb-false MOST_NAMES (length asked) e in
     let one : length (asked ++ n ∷ []) ≡ length asked + 1 = length-append asked (n ∷ []) in
     omega arith
 
-pub asked_few : {End : Type 0} (M : Map) (run : RunTree End) (asked : List Name) → length asked ≤ most_names → length (asked_from M run asked) ≤ most_names
+pub asked_few : {End : Type 0} (M : Map) (run : RunTree End) (asked : List Name) → length asked ≤ MOST_NAMES → length (asked_from M run asked) ≤ MOST_NAMES
 unfolding asked_from
 asked_few M (Done end) asked low = low
-asked_few M (Ask name next) asked low = asked_few M (next (reply_in M asked name)) (asked_with asked name) (few (nat_le most_names (length asked)) (was_asked asked name) asked name refl low)
+asked_few M (Ask name next) asked low = asked_few M (next (reply_in M asked name)) (asked_with asked name) (few (nat_le MOST_NAMES (length asked)) (was_asked asked name) asked name refl low)
 asked_few M (Tell text next) asked low = asked_few M next asked low

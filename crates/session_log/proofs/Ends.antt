@@ -16,7 +16,6 @@ use Rattle.run_trees.specs.WholeRun.{asked_names, whole_run}
 use Rattle.run_trees.proofs.Answering.{rest-same}
 use Rattle.poll_log.specs.declared.question.Question.{Question}
 use Rattle.poll_log.specs.declared.terms.Terms.{Terms}
-use Rattle.poll_log.specs.declared.terms.TheConstants.{NAMES}
 use Rattle.poll_log.specs.Turns.{Turns}
 use Rattle.poll_log.specs.Questions.{firsts, has_name, same_name, was_sent}
 use Rattle.poll_log.specs.Told.{Map, is_dead, told}
@@ -32,6 +31,7 @@ use Rattle.session_log.specs.Sessions.{Finishes, Holds, IsEnd, IsWhole, Lacks, S
 use Rattle.session_log.specs.Laws.{EndsStay, HasOneEnd, IsIsolated, RunsCostTheirNames, SessionsEnd, ToldIsFinite}
 use Rattle.session_log.proofs.Asking.{asked_in-map, held_parts}
 use Rattle.session_log.proofs.Orders.{in_order, run_is_job}
+use Rattle.pac_names.specs.declared.limits.TheConstants.{MOST_NAMES}
 
 -- ---- what is told is a finite map
 
@@ -151,17 +151,17 @@ one_end t h run e = go (job_of run (told t h)) refl e
 
 pub end_stays : {End : Type 0} → EndsStay End
 end_stays t ms more run (Finishes one) e = (
-  finished_stays NAMES t ms more (job_of run) (run_is_job run) e.0,
+  finished_stays MOST_NAMES t ms more (job_of run) (run_is_job run) e.0,
   λ all p. e.1 all (λ n x k. p n x (told_grows t ms more n x k)),
 )
-end_stays t ms more run (Lacks n) e = unanswered_stays NAMES t ms more (job_of run) n (run_is_job run) e
+end_stays t ms more run (Lacks n) e = unanswered_stays MOST_NAMES t ms more (job_of run) n (run_is_job run) e
 
 -- ---- what a session costs
 
 pub costs : {End : Type 0} → RunsCostTheirNames End
 costs t h run =
-    let by : IsRestartableBy NAMES (asked_in run) = runs_restartable NAMES (asked_in run) (in_order run) in
-    let bound : runs_of t h (job_of run) ≤ by.law.depth (told t h) + 1 = runs_bound NAMES t h (job_of run) by.law in
+    let by : IsRestartableBy MOST_NAMES (asked_in run) = runs_restartable MOST_NAMES (asked_in run) (in_order run) in
+    let bound : runs_of t h (job_of run) ≤ by.law.depth (told t h) + 1 = runs_bound MOST_NAMES t h (job_of run) by.law in
     let deep = by.depth (told t h) in
     let within = by.law.within (told t h) in
     record {

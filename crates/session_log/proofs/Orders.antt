@@ -6,7 +6,6 @@ use Rattle.pac_names.specs.declared.answer.Answer.TheVariants.{NoAddress}
 use Rattle.js_host.specs.Answers.{Name}
 use Rattle.js_host.specs.Seen.{Answered, Refused, is_one_too_many, with_name}
 use Rattle.run_trees.specs.RunTree.{RunTree, Done, Ask, Tell}
-use Rattle.poll_log.specs.declared.terms.TheConstants.{NAMES}
 use Rattle.poll_log.specs.Told.{Map}
 use Rattle.poll_log.specs.Laws.{Extends, first_lacking, lacking_or, only_behind, up_to_lacking}
 use Rattle.poll_log.proofs.Names.{none_some}
@@ -14,6 +13,7 @@ use Rattle.poll_log.proofs.Orders.{runs_restartable}
 use Rattle.session_log.specs.Asked.{asked_from, asked_in}
 use Rattle.session_log.specs.Laws.{RunsAreJobs, RunsAskInOrder}
 use Rattle.session_log.proofs.Asking.{asked_few, asked_more, held-with_name, lacking-append, not_asked}
+use Rattle.pac_names.specs.declared.limits.TheConstants.{MOST_NAMES}
 
 -- two lists of names are alike up to a name that isn't held, the first such one
 record Parts (M : Map) (one other : List Name) : Type 0 where
@@ -99,4 +99,4 @@ in_order run =
     }
 
 pub run_is_job : {End : Type 0} → RunsAreJobs End
-run_is_job run = (runs_restartable NAMES (asked_in run) (in_order run)).law
+run_is_job run = (runs_restartable MOST_NAMES (asked_in run) (in_order run)).law

@@ -8,13 +8,13 @@ use Rattle.run_trees.specs.WholeRun.{asked_names, whole_run}
 use Rattle.run_trees.specs.Laws.{first_missing_of}
 use Rattle.pac_ports.specs.declared.link.Move.{Move}
 use Rattle.poll_log.specs.declared.terms.Terms.{Terms}
-use Rattle.poll_log.specs.declared.terms.TheConstants.{NAMES}
 use Rattle.poll_log.specs.Turns.{Turns, Then, Event, turns_of}
 use Rattle.poll_log.specs.Told.{told}
 use Rattle.poll_log.specs.Jobs.{Job, IsFinished, is_waiting, runs_of}
 use Rattle.poll_log.specs.Laws.{AsksInOrder, IsRestartable}
 use Rattle.session_log.specs.Asked.{asked_in, job_of}
 use Rattle.session_log.specs.Sessions.{Holds, IsEnd, SessionEnd, all_runs, waits_told}
+use Rattle.pac_names.specs.declared.limits.TheConstants.{MOST_NAMES}
 
 -- over a finite map a job lacks the first name of its whole run that the map doesn't hold
 abbrev pub LacksTheFirstMissing : Type 0 → Type 0
@@ -22,10 +22,10 @@ LacksTheFirstMissing End = (run : RunTree End) (all : AnswerMap) → job_of run 
 
 -- The extension law, for answers of any kind.
 abbrev pub RunsAskInOrder : Type 0 → Type 0
-RunsAskInOrder End = (run : RunTree End) → AsksInOrder NAMES (asked_in run)
+RunsAskInOrder End = (run : RunTree End) → AsksInOrder MOST_NAMES (asked_in run)
 
 abbrev pub RunsAreJobs : Type 0 → Type 0
-RunsAreJobs End = (run : RunTree End) → IsRestartable NAMES (job_of run)
+RunsAreJobs End = (run : RunTree End) → IsRestartable MOST_NAMES (job_of run)
 
 -- the answers that a log tells are a finite map
 pub record IsFinite (terms : Terms) (turns : Turns) : Type 0 where
@@ -55,7 +55,7 @@ EndsStay End =
 -- A session costs at most one run more than the names that its run asks.
 pub record CostsItsNames {End : Type 0} (terms : Terms) (turns : Turns) (run : RunTree End) : Type 0 where
   pub names : runs_of terms turns (job_of run) ≤ length (asked_in run (told terms turns)) + 1
-  pub most : runs_of terms turns (job_of run) ≤ NAMES + 1
+  pub most : runs_of terms turns (job_of run) ≤ MOST_NAMES + 1
   -- where it is finished these are the names of the uninterrupted run
   pub whole : IsFinished terms turns (job_of run) → (all : AnswerMap) → Holds all (told terms turns)
       → asked_names all run ≡ asked_in run (told terms turns)

@@ -4,14 +4,15 @@ use Rattle.std.proofs.lemmas.Bool.{le-leb, lt-leb}
 use Rattle.text_builtins.specs.declared.call.TextResult.TheVariants.{Text, TooLong}
 use Rattle.text_builtins.specs.Joining.{made_text}
 use Rattle.text_builtins.specs.Replacing.{expanded, capped_length, replaced_at}
+use Rattle.utf16_text.specs.declared.limits.TheConstants.{LONGEST_TEXT}
 
-made_text-long : (a e b : List ℕ) → 262144 < length a + min (length e) 262145 + length b → made_text (a ++ e ++ b) ≡ TooLong
+made_text-long : (a e b : List ℕ) → LONGEST_TEXT < length a + min (length e) (LONGEST_TEXT + 1) + length b → made_text (a ++ e ++ b) ≡ TooLong
 made_text-long a e b h =
-    ap (λ t. cond t (Text (a ++ e ++ b)) TooLong) (lt-leb (length (a ++ e ++ b)) 262144 (omega (arith, length-append {A = ℕ})))
+    ap (λ t. cond t (Text (a ++ e ++ b)) TooLong) (lt-leb (length (a ++ e ++ b)) LONGEST_TEXT (omega (arith, length-append {A = ℕ})))
 
-made_text-fits : (a e b : List ℕ) → length a + min (length e) 262145 + length b ≤ 262144 → made_text (a ++ e ++ b) ≡ Text (a ++ e ++ b)
+made_text-fits : (a e b : List ℕ) → length a + min (length e) (LONGEST_TEXT + 1) + length b ≤ LONGEST_TEXT → made_text (a ++ e ++ b) ≡ Text (a ++ e ++ b)
 made_text-fits a e b h =
-    ap (λ t. cond t (Text (a ++ e ++ b)) TooLong) (le-leb (length (a ++ e ++ b)) 262144 (omega (arith, length-append {A = ℕ})))
+    ap (λ t. cond t (Text (a ++ e ++ b)) TooLong) (le-leb (length (a ++ e ++ b)) LONGEST_TEXT (omega (arith, length-append {A = ℕ})))
 
 module _ (units part by before behind : List ℕ) (at size : ℕ)
     (front : before ≡ take at units) (back : behind ≡ drop (at + length part) units)
@@ -21,16 +22,16 @@ module _ (units part by before behind : List ℕ) (at size : ℕ)
       ap (λ b. made_text (b ++ expanded b part behind by ++ behind)) front
       ∙ ap (λ a. made_text (take at units ++ expanded (take at units) part a by ++ a)) back
 
-  pub replaced_at-long : 262144 < length before + size + length behind → TooLong ≡ replaced_at units at part by
+  pub replaced_at-long : LONGEST_TEXT < length before + size + length behind → TooLong ≡ replaced_at units at part by
   replaced_at-long h =
       sym (made_text-long before (expanded before part behind by) behind
-      (let P : ℕ → Type 0 = λ n. 262144 < length before + n + length behind in subst P counted h))
+      (let P : ℕ → Type 0 = λ n. LONGEST_TEXT < length before + n + length behind in subst P counted h))
       ∙ whole
 
   pub replaced_at-fits : (text : List ℕ) → text ≡ before ++ expanded before part behind by ++ behind
-      → length before + size + length behind ≤ 262144 → Text text ≡ replaced_at units at part by
+      → length before + size + length behind ≤ LONGEST_TEXT → Text text ≡ replaced_at units at part by
   replaced_at-fits text e h =
       ap Text e
       ∙ sym (made_text-fits before (expanded before part behind by) behind
-      (let P : ℕ → Type 0 = λ n. length before + n + length behind ≤ 262144 in subst P counted h))
+      (let P : ℕ → Type 0 = λ n. length before + n + length behind ≤ LONGEST_TEXT in subst P counted h))
       ∙ whole

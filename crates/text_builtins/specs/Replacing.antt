@@ -7,6 +7,7 @@ use Rattle.text_builtins.specs.declared.call.TextArg.TheVariants as arg
 use Rattle.text_builtins.specs.declared.call.TextResult.{TextResult}
 use Rattle.text_builtins.specs.declared.call.TextResult.TheVariants.{Text}
 use Rattle.text_builtins.specs.Joining.{made_text, units_of}
+use Rattle.utf16_text.specs.declared.limits.TheConstants.{LONGEST_TEXT}
 
 -- what `$` and the unit c stand for, in front of more; or else what they are themselves
 abbrev pub dollar : List ℕ → List ℕ → List ℕ → ℕ → List ℕ → List ℕ → List ℕ
@@ -29,7 +30,7 @@ abbrev pub BeginsWith : List ℕ → List ℕ → List ℕ → List ℕ → List
 BeginsWith before part behind by piece more = expanded before part behind by ≡ piece ++ expanded before part behind more
 
 abbrev pub capped_length : List ℕ → List ℕ → List ℕ → List ℕ → ℕ
-capped_length by before part behind = min (length (expanded before part behind by)) 262145
+capped_length by before part behind = min (length (expanded before part behind by)) (LONGEST_TEXT + 1)
 
 -- the text with a replacement in place of the part that stands at a place
 abbrev pub replaced_at : List ℕ → ℕ → List ℕ → List ℕ → TextResult

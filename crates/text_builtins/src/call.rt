@@ -2,6 +2,7 @@
 ghost use Rattle.std.specs.Prelude.{◌≡◌, ◌≤◌, IfOk, length};
 ghost use Rattle.text_builtins.specs.Arguments.{first_number_of, second_number_of};
 ghost use Rattle.text_builtins.specs.Call.{text_result};
+ghost use Rattle.utf16_text.specs.declared.limits.TheConstants.{LONGEST_TEXT};
 
 use crate::joining::concat;
 use crate::parts::{char_at, char_code_at, slice, substr, substring};
@@ -62,7 +63,7 @@ pub fn call_text(
     receiver: &Text,
     args: &[TextArg],
 ) -> Result<TextResult, Memory>
-    requires { length receiver.now ≤ 262144 }
+    requires { length receiver.now ≤ LONGEST_TEXT }
     ensures { IfOk result (λ r. r ≡ text_result which receiver.now args.now) }
 {
     match which {

@@ -2,21 +2,19 @@
 ghost use Rattle.std.specs.Prelude.{◌≡◌, ◌≤◌, ◌+◌, ◌++◌, IfOk, length, min};
 ghost use Rattle.std.specs.List.{flat_map};
 ghost use Rattle.text_builtins.specs.Joining.{concat_of, joined, units_of};
+ghost use Rattle.utf16_text.specs.declared.limits.TheConstants.{LONGEST_TEXT};
 
 use crate::call::{TextArg, TextResult};
 use std::alloc::Global;
-use utf16_text::{Memory, Text};
-
-/// The most units that a text may have.
-pub const LIMIT: usize = 262144;
+use utf16_text::{LONGEST_TEXT, Memory, Text};
 
 /// `concat`: the receiver and all arguments, one after another (15.5.4.6).
 pub fn concat(alloc: Global, receiver: &Text, args: &[TextArg]) -> Result<TextResult, Memory>
-    requires { length receiver.now ≤ 262144 }
+    requires { length receiver.now ≤ LONGEST_TEXT }
     ensures { IfOk result (λ r. r ≡ concat_of receiver.now args.now) }
 {
     let length = joined_length(receiver, args);
-    if length > LIMIT {
+    if length > LONGEST_TEXT {
         return Ok(TextResult::TooLong);
     }
     Ok(TextResult::Text(joined(alloc, receiver, args, length)?))
@@ -24,12 +22,12 @@ pub fn concat(alloc: Global, receiver: &Text, args: &[TextArg]) -> Result<TextRe
 
 // The number of units of all, or one more than the limit where they are more.
 fn joined_length(receiver: &Text, args: &[TextArg]) -> usize
-    requires { length receiver.now ≤ 262144 }
-    ensures { result ≡ min (length (joined receiver.now args.now)) 262145 }
+    requires { length receiver.now ≤ LONGEST_TEXT }
+    ensures { result ≡ min (length (joined receiver.now args.now)) (LONGEST_TEXT + 1) }
 {
     let mut length = receiver.len();
     for arg in args {
-        length = (length + units(arg).len()).min(LIMIT + 1);
+        length = (length + units(arg).len()).min(LONGEST_TEXT + 1);
     }
     length
 }

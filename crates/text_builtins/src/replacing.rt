@@ -9,11 +9,12 @@ ghost use Rattle.text_builtins.specs.Replacing.{
   replaced_first,
   replacement_of,
 };
+ghost use Rattle.utf16_text.specs.declared.limits.TheConstants.{LONGEST_TEXT};
 
 use crate::call::{TextArg, TextResult};
-use crate::joining::{LIMIT, units};
+use crate::joining::units;
 use std::alloc::{AllocError, Global};
-use utf16_text::{Memory, Text};
+use utf16_text::{LONGEST_TEXT, Memory, Text};
 
 const DOLLAR: u16 = 36;
 
@@ -27,7 +28,7 @@ const GRAVE: u16 = 96;
 /// In the replacement `$$` is `$`, `$&` the part, `` $` `` what stands before it, and `$'` what stands behind it
 /// (15.5.4.11).
 pub fn replace(alloc: Global, receiver: &Text, args: &[TextArg]) -> Result<TextResult, Memory>
-    requires { length receiver.now ≤ 262144 }
+    requires { length receiver.now ≤ LONGEST_TEXT }
     ensures { IfOk result (λ r. r ≡ replace_of receiver.now args.now) }
 {
     match args {
@@ -47,7 +48,7 @@ fn replaced_first(
     part: &Text,
     by: &[u16],
 ) -> Result<TextResult, Memory>
-    requires { length receiver.now ≤ 262144 }
+    requires { length receiver.now ≤ LONGEST_TEXT }
     ensures { IfOk result (λ r. r ≡ replaced_first receiver.now part.now by.now) }
 {
     match receiver.find(part, 0) {
@@ -64,14 +65,14 @@ fn replaced(
     by: &[u16],
 ) -> Result<TextResult, Memory>
     requires fits { at + length part.now ≤ length units.now }
-    requires short { length units.now ≤ 262144 }
+    requires short { length units.now ≤ LONGEST_TEXT }
     ensures { IfOk result (λ r. r ≡ replaced_at units.now at part.now by.now) }
 {
     let before = front(units, at);
     let behind = rest(units, at + part.len());
     let size = expanded_length(by, before, part, behind);
     let length = before.len() + size + behind.len();
-    if length > LIMIT {
+    if length > LONGEST_TEXT {
         return Ok(TextResult::TooLong);
     }
     let mut all = Vec::with_capacity(alloc, length)?;
@@ -97,7 +98,7 @@ fn expanded_length(by: &[u16], before: &[u16], part: &[u16], behind: &[u16]) -> 
     let mut length: usize = 0;
     let mut left = by;
     while let Some((piece, more)) = next_piece(left, before, part, behind) {
-        length = (length + piece.len()).min(LIMIT + 1);
+        length = (length + piece.len()).min(LONGEST_TEXT + 1);
         left = more;
     }
     length

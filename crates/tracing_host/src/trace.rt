@@ -3,12 +3,9 @@ ghost use Rattle.std.specs.Prelude.{◌≡◌};
 ghost use Rattle.js_host.specs.Seen.{was_asked};
 
 use crate::NameList;
-use pac_names::LookupName;
+use pac_names::{LookupName, MOST_NAMES};
 use std::alloc::Global;
 use utf16_text::TextList;
-
-/// How many distinct names a run may ask.
-const MOST_NAMES: usize = 32;
 
 /// The distinct names that were asked, in the order of first asking, and the alerts that were kept.
 #[derive(Drop)]

@@ -1,7 +1,6 @@
 -- What is polled for is sound.
 use Rattle.std.proofs.Common.{get_or, map}
 use Rattle.std.proofs.lemmas.List.Elements.{All-map}
-use Rattle.poll_log.specs.declared.terms.TheConstants.{NAMES}
 use Rattle.poll_log.specs.Laws.{IsRestartable}
 use Rattle.poll_loop.specs.Task as jobs
 use Rattle.session_log.proofs.Orders.{run_is_job}
@@ -10,12 +9,13 @@ use Rattle.url_runs.specs.Runs.{url_run}
 use Rattle.url_runs.specs.Resolving.{url_job}
 use Rattle.url_runs.specs.Laws.{TasksAreSound}
 use Rattle.url_runs.specs.Named.{url_named}
+use Rattle.pac_names.specs.declared.limits.TheConstants.{MOST_NAMES}
 
 pub sound : TasksAreSound
 sound asking program entries terms =
     record {
       terms = record { waits = terms.waits; tried = terms.tried };
       named = All-map jobs.AsksLookupNames (url_job program) entries (λ k d low. url_named program (get_or entries k d));
-      restartable = All-map (IsRestartable NAMES) (url_job program) entries (λ k d low. run_is_job (url_run program (get_or entries k d)));
+      restartable = All-map (IsRestartable MOST_NAMES) (url_job program) entries (λ k d low. run_is_job (url_run program (get_or entries k d)));
       unsent_runs = runs_with_sent asking.terms (map (url_job program) entries);
     }

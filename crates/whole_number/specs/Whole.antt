@@ -1,18 +1,19 @@
 -- Whole numbers of at most 2^53 - 1 in size, and operations on them (ECMA-262 5.1, sections 9.5, 9.6, 11.5 and 11.6).
-use Rattle.std.specs.Prelude.{ℕ, ℤ, pos, negsuc, ◌≤ℤ◌, Bool, if◌then◌else◌, nat_le, nat_lt, Option, Some, None, Result, Ok, Err, int_div, int_rem, unsigned_abs}
+use Rattle.std.specs.Prelude.{ℕ, ◌-◌, ℤ, pos, negsuc, ◌≤ℤ◌, Bool, if◌then◌else◌, nat_le, nat_lt, Option, Some, None, Result, Ok, Err, int_div, int_rem, unsigned_abs}
 use Rattle.std.specs.Ordering.{int_eq}
 use Rattle.std.specs.Int.{w32, cast_signed, int_rem_euclid}
 use Rattle.whole_number.specs.declared.answer.WholeAnswer.{WholeAnswer}
 use Rattle.whole_number.specs.declared.answer.WholeAnswer.TheVariants.{Range, Fraction, DivisionByZero}
+use Rattle.whole_number.specs.declared.whole.TheConstants.{LARGEST}
 
 -- from -(2^53 - 1) to 2^53 - 1
 abbrev pub IsWhole : ℤ → Type 0
-IsWhole n = (negsuc 9007199254740990 ≤ℤ n) × (n ≤ℤ pos 9007199254740991)
+IsWhole n = (negsuc (LARGEST - 1) ≤ℤ n) × (n ≤ℤ pos LARGEST)
 
 -- the same as a test; `negsuc n` is -(n + 1)
 abbrev pub is_whole : ℤ → Bool
-is_whole (pos n) = nat_le n 9007199254740991
-is_whole (negsuc n) = nat_lt n 9007199254740991
+is_whole (pos n) = nat_le n LARGEST
+is_whole (negsuc n) = nat_lt n LARGEST
 
 -- the number, or Range where it is too large
 abbrev pub whole_of : ℤ → Result ℤ WholeAnswer
@@ -20,7 +21,7 @@ whole_of n = if is_whole n then Ok n else Err Range
 
 -- a number from 0, or none where it is too large
 abbrev pub whole_or_none : ℕ → Option ℤ
-whole_or_none n = if nat_le n 9007199254740991 then Some (pos n) else None
+whole_or_none n = if nat_le n LARGEST then Some (pos n) else None
 
 -- by 0 there is no quotient; a quotient that isn't whole is Fraction (11.5.2)
 abbrev pub quotient_of : ℤ → ℤ → Result ℤ WholeAnswer

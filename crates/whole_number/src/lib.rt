@@ -11,4 +11,4 @@ mod whole;
 
 pub use answer::WholeAnswer;
 pub use numeral::capped_value;
-pub use whole::Whole;
+pub use whole::{LARGEST, Whole};

@@ -1,24 +1,22 @@
 // Whole numbers from digits, and as texts.
-ghost use Rattle.std.specs.Prelude.{◌≡◌, ◌≤◌, IfOk, min};
+ghost use Rattle.std.specs.Prelude.{◌≡◌, ◌≤◌, ◌+◌, IfOk, min};
 ghost use Rattle.std.specs.Fmt.{signed_decimal};
 ghost use Rattle.utf16_text.specs.Digits.{value_of};
 ghost use Rattle.whole_number.specs.Whole.{whole_or_none};
+ghost use Rattle.whole_number.specs.declared.whole.TheConstants.{LARGEST};
 
-use crate::Whole;
+use crate::{LARGEST, Whole};
 use std::alloc::Global;
 use utf16_text::{Memory, Text, digit_of};
-
-/// One more than the largest number.
-const LIMIT: u64 = 9007199254740992;
 
 /// The number that digits spell in a base of at most 36, or 2^53 where that is less.
 pub fn capped_value(base: u64, digits: &[u16]) -> u64
     requires { base ≤ 36 }
-    ensures { result ≡ min (value_of base digits.now) 9007199254740992 }
+    ensures { result ≡ min (value_of base digits.now) (LARGEST + 1) }
 {
     let mut value = 0;
     for digit in digits {
-        value = (value * base + u64::from(digit_of(*digit))).min(LIMIT);
+        value = (value * base + u64::from(digit_of(*digit))).min(LARGEST + 1);
     }
     value
 }

@@ -7,7 +7,8 @@ use crate::WholeAnswer;
 use itoa::Buffer;
 use std::marker::Model;
 
-const LARGEST: i64 = 9007199254740991;
+/// The largest whole number, 2^53 - 1.
+pub const LARGEST: u64 = 9_007_199_254_740_991;
 
 /// A whole number of at most 2^53 - 1 in size. There is one zero.
 #[derive(Clone, Copy, Debug, PartialEq, Eq, PartialOrd, Ord)]
@@ -34,7 +35,7 @@ impl Whole {
         ensures some { IsSome result ↔ IsWhole value }
         ensures value { IfSome result (λ w. w ≡ value) }
     {
-        if value < -LARGEST || value > LARGEST {
+        if value < -(LARGEST as i64) || value > LARGEST as i64 {
             return None;
         }
         Some(Whole { value })

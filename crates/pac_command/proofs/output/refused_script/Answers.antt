@@ -1,12 +1,13 @@
 use Rattle.std.proofs.Common.{◌∙◌, ◌++◌, ◌∷◌, [], append_assoc, sym, ap}
 use Rattle.std.specs.Prelude.{codes}
 use Rattle.pac_plan.specs.declared.status.Status.TheVariants.{Refused}
+use Rattle.report_text.specs.Report.{place_text}
 use Rattle.pac_command.specs.Scripts as scripts
 use Rattle.pac_command.proofs.output.refused_script.Goals as goal
 
 pub returns : goal.returns
 returns c =
-    let place = scripts.place_text c.args.place in
+    let place = place_text c.args.place in
     let name = scripts.kind_name c.args.kind in
     ap (λ v. record { status = Refused; text = v.items }) c.into_bytes.ensures.value
     ∙ ap (λ bytes. record { status = Refused; text = bytes }) c.in_ok-text.ensures.ok
