@@ -1,5 +1,5 @@
 // The zone of a command: one fixed offset.
-ghost use Rattle.std.specs.Prelude.{◌≡◌, ◌≤◌, IfSome};
+ghost use Rattle.std.specs.Prelude.{◌≡◌, ◌≤◌, IfSome, pos};
 ghost use Rattle.pac_calendar.specs.Zone.{zone_of_text, signed_seconds, two_digits};
 ghost use Rattle.jiff_core.specs.Calendar.{IsWithin};
 
@@ -25,6 +25,13 @@ impl Model for Zone {
 }
 
 impl Zone {
+    /// UTC itself.
+    pub fn utc() -> Zone
+        ensures { result ≡ pos 0 }
+    {
+        Zone { seconds: 0 }
+    }
+
     /// The seconds that a clock of the zone shows more than one of UTC.
     pub fn seconds(self) -> i32
         ensures value { result ≡ self }
@@ -39,7 +46,7 @@ pub fn read_zone(text: &str) -> Option<Zone>
     ensures { result ≡ zone_of_text text.now }
 {
     match text.as_bytes() {
-        b"UTC" => Some(Zone { seconds: 0 }),
+        b"UTC" => Some(Zone::utc()),
         [b'+', h1, h2, b':', m1, m2] => offset(*h1, *h2, *m1, *m2, false),
         [b'-', h1, h2, b':', m1, m2] => offset(*h1, *h2, *m1, *m2, true),
         _ => None,

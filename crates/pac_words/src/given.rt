@@ -21,7 +21,8 @@ ghost use Rattle.pac_calendar.specs.declared.showing.TheConstants.{LAST_MOMENT};
 use crate::command::{Asking, Command, Running, Source};
 use crate::number::{number, number_or};
 use crate::parse::value;
-use crate::quad::{LOCAL, quad_or, server_or};
+use crate::quad::{quad_or, server_or};
+use crate::usual::{LOCAL, USUAL_FUEL, USUAL_TRIES, USUAL_WAIT};
 use clap::ArgMatches;
 use pac_calendar::{LAST_MOMENT, Zone, read_zone};
 
@@ -44,7 +45,7 @@ fn zone(text: Option<&str>) -> Option<Zone>
     ensures { result ≡ zone_or (option_map (λ t. t.now) text.entry) }
 {
     match text {
-        None => read_zone("UTC"),
+        None => Some(Zone::utc()),
         Some(text) => read_zone(text),
     }
 }
@@ -72,8 +73,8 @@ fn asking(matches: &ArgMatches<'_>) -> Option<Asking>
     ensures { option_map asking_view result ≡ asking_of (given_in matches.now) }
 {
     let server = server_or(value(matches, "server"))?;
-    let wait = number_or(value(matches, "wait"), 10, 1, 1000)?;
-    let tries = number_or(value(matches, "tries"), 4, 1, 8)?;
+    let wait = number_or(value(matches, "wait"), USUAL_WAIT as u64, 1, 1000)?;
+    let tries = number_or(value(matches, "tries"), USUAL_TRIES as u64, 1, 8)?;
     Some(Asking {
         server,
         wait: wait as u32,
@@ -84,7 +85,7 @@ fn asking(matches: &ArgMatches<'_>) -> Option<Asking>
 fn running(matches: &ArgMatches<'_>) -> Option<Running>
     ensures { option_map running_view result ≡ running_of (given_in matches.now) }
 {
-    let fuel = number_or(value(matches, "fuel"), 10_000_000, 1, 1_000_000_000)?;
+    let fuel = number_or(value(matches, "fuel"), USUAL_FUEL, 1, 1_000_000_000)?;
     let my_ip = quad_or(value(matches, "my-ip"), LOCAL)?;
     let zone = zone(value(matches, "zone"))?;
     let now = moment(value(matches, "now"))?;

@@ -5,11 +5,9 @@ ghost use Rattle.pac_words.specs.Values.{cut_at, quad_or, port_of, server_of, se
 ghost use Rattle.pac_words.specs.Views.{server_view};
 
 use crate::number::number;
+use crate::usual::{LOCAL, USUAL_PORT};
 use pac_names::quad_in;
 use pac_ports::Server;
-
-/// 127.0.0.1
-pub(crate) const LOCAL: u32 = 2_130_706_433;
 
 fn cut_colon(text: &str) -> (&str, Option<&str>)
     ensures { (result.0.now, option_map (λ t. t.now) result.1) ≡ cut_at 58 text.now }
@@ -24,7 +22,7 @@ fn port(text: Option<&str>) -> Option<u16>
     ensures { result ≡ port_of (option_map (λ t. t.now) text.entry) }
 {
     match text {
-        None => Some(53),
+        None => Some(USUAL_PORT),
         Some(text) => match number(text, 1, 65535) {
             None => None,
             Some(value) => Some(value as u16),
@@ -58,7 +56,7 @@ pub(crate) fn server_or(text: Option<&str>) -> Option<Server>
     match text {
         None => Some(Server {
             address: LOCAL,
-            port: 53,
+            port: USUAL_PORT,
         }),
         Some(text) => server(text),
     }
