@@ -1,5 +1,5 @@
-// What `pac` answers over a script and a names file. It has no link.
-use crate::calls::status_of;
+// What `pac` answers over a script and a names file, and where the clock shows a moment. It has no link.
+use crate::calls::{status_at, status_of};
 use crate::narrow_sink::NarrowSink;
 use crate::network::Network;
 use anyhow::{Result, bail};
@@ -13,6 +13,18 @@ pub(crate) fn plain(alloc: Global, fields: &[&str]) -> Result<String> {
         bail!("a script and words");
     };
     over(alloc, &octets(alloc, script)?, b"", words)
+}
+
+pub(crate) fn at_moment(alloc: Global, fields: &[&str]) -> Result<String> {
+    let [moment, script, words] = fields else {
+        bail!("a moment, a script and words");
+    };
+    let mut files = files_of(alloc, &octets(alloc, script)?, b"")?;
+    let mut out = MemorySink::new(alloc, 1000)?;
+    let mut network = Network::none(alloc)?;
+    let moment = moment.parse::<i64>()?;
+    let status = status_at(alloc, moment, words, &mut files, &mut out, &mut network)?;
+    written(alloc, status, out.bytes())
 }
 
 pub(crate) fn mapped(alloc: Global, fields: &[&str]) -> Result<String> {

@@ -50,13 +50,13 @@ fn add_datagram(alloc: Global, link: &mut MemoryLink, datagram: Vec<u8>) -> Resu
 }
 
 /// A datagram: `octets:` and what a field writes, a reply `NAME/NUMBER=ADDRESSES`, `reply` for the plain one, `front:N`
-/// for its first N octets, or `octet:AT:VALUE` for it with that octet.
+/// for its first N octets, or `with:AT:` and what a field writes for it with these octets in place of its own.
 fn datagram_in(alloc: Global, event: &str) -> Result<Vec<u8>> {
     if let Some(written) = event.strip_prefix("octets:") {
         octets(alloc, written)
     } else if let Some(count) = event.strip_prefix("front:") {
         front(alloc, count.parse::<usize>()?)
-    } else if let Some(change) = event.strip_prefix("octet:") {
+    } else if let Some(change) = event.strip_prefix("with:") {
         changed(alloc, change)
     } else if event == "reply" {
         plain_reply(alloc)
@@ -71,13 +71,17 @@ fn front(alloc: Global, count: usize) -> Result<Vec<u8>> {
     Ok(message)
 }
 
+// The octets may go past the end.
 fn changed(alloc: Global, change: &str) -> Result<Vec<u8>> {
-    let (at, value) = change.split_once(':').context("a place and a value")?;
-    let at = at.parse::<usize>()?;
-    let mut message = plain_reply(alloc)?;
-    ensure!(at < message.len(), "no such octet");
-    message[at] = value.parse::<u8>()?;
-    Ok(message)
+    let (at, written) = change.split_once(':').context("a place and octets")?;
+    let octets = octets(alloc, written)?;
+    let message = plain_reply(alloc)?;
+    let front = message.get(..at.parse::<usize>()?).context("a place")?;
+    let mut whole = front.to_vec(alloc)?;
+    whole.extend_from_slice(&octets)?;
+    let back = message.get(whole.len()..).unwrap_or(&[]);
+    whole.extend_from_slice(back)?;
+    Ok(whole)
 }
 
 fn reply_in(alloc: Global, event: &str) -> Result<Vec<u8>> {

@@ -8,6 +8,7 @@ mod answers;
 mod asking;
 mod calls;
 mod coming;
+mod datagrams;
 mod messages;
 mod moves;
 mod narrow_sink;
@@ -24,6 +25,7 @@ fn main(rt: HostRuntime) -> Result<()> {
 fn answer(alloc: Global, part: &str, fields: &[&str]) -> Result<String> {
     match part {
         "answers" => answers::plain(alloc, fields),
+        "clocks" => answers::at_moment(alloc, fields),
         "names files" => answers::mapped(alloc, fields),
         "nested brackets" => answers::nested(alloc, fields),
         "long scripts" => answers::long(alloc, fields),
@@ -36,6 +38,7 @@ fn answer(alloc: Global, part: &str, fields: &[&str]) -> Result<String> {
         "failing sinks" => reports::failing(alloc, fields),
         "counted lines" => reports::counted(alloc, fields),
         "asked names" => asking::asked(alloc, fields),
+        "datagrams" => datagrams::outcomes(alloc, fields),
         _ => bail!("no part {part}"),
     }
 }

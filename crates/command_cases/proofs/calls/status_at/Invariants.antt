@@ -1,4 +1,4 @@
-use Rattle.command_cases.proofs.calls.status_of.Given as goal
+use Rattle.command_cases.proofs.calls.status_at.Given as goal
 
 -- the ledger is that of the blank one that is handed over
 abbrev pub ghosts-called : goal.ghosts-called
