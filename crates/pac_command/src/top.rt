@@ -122,7 +122,7 @@ fn done<F: Files, N: Link, C: Clock, D: Dice, L: Ledger>(
         } => map(alloc, names, script, from, running, files, clock, runs),
         Command::Check { script } => check(alloc, script, files),
         Command::Ask { name, asking } => ask(alloc, name, asking_of(*asking), link, dice, runs),
-        Command::Generate { .. } => faulty_usage(alloc),
+        Command::Generate(_) => faulty_usage(alloc),
     }
 }
 

@@ -30,7 +30,7 @@ command_view (command.Resolve script from asking running) = spec.resolving scrip
 command_view (command.Map names script from running) = spec.mapping names.now script.now (source_view from) (running_view running)
 command_view (command.Check script) = spec.checking script.now
 command_view (command.Ask name asking) = spec.asking name.now (asking_view asking)
-command_view (command.Generate seed sites) = spec.generating seed sites
+command_view (command.Generate generating) = spec.generating generating.seed generating.sites
 
 -- the value of each argument by the matches
 abbrev pub given_in : ArgMatches → spec.Given

@@ -37,6 +37,15 @@ pub enum Source<'a> {
     Batch(&'a str),
 }
 
+/// From what a large input is made.
+#[derive(Clone, Copy)]
+pub struct Generating {
+    pub seed: u32,
+    /// How many sites there are.
+    pub sites: u32,
+    ghost few: { sites ≤ 256 },
+}
+
 /// A command with its arguments.
 #[derive(Clone, Copy)]
 pub enum Command<'a> {
@@ -59,8 +68,5 @@ pub enum Command<'a> {
         name: &'a str,
         asking: Asking,
     },
-    Generate {
-        seed: u64,
-        sites: u64,
-    },
+    Generate(Generating),
 }

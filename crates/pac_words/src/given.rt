@@ -18,7 +18,7 @@ ghost use Rattle.pac_words.specs.Commands.{
 ghost use Rattle.pac_words.specs.Views.{asking_view, running_view, source_view, command_view, given_in};
 ghost use Rattle.pac_calendar.specs.declared.showing.TheConstants.{LAST_MOMENT};
 
-use crate::command::{Asking, Command, Running, Source};
+use crate::command::{Asking, Command, Generating, Running, Source};
 use crate::number::{number, number_or};
 use crate::parse::value;
 use crate::quad::{quad_or, server_or};
@@ -61,7 +61,8 @@ fn source<'a>(url: Option<&'a str>, batch: Option<&'a str>) -> Option<Source<'a>
 }
 
 fn number_given(text: Option<&str>, low: u64, high: u64) -> Option<u64>
-    ensures { result ≡ number_given low high (option_map (λ t. t.now) text.entry) }
+    ensures number { result ≡ number_given low high (option_map (λ t. t.now) text.entry) }
+    ensures range { IfSome result (λ n. (low ≤ n) × (n ≤ high)) }
 {
     match text {
         None => None,
@@ -147,5 +148,9 @@ pub(crate) fn generate<'a>(matches: &ArgMatches<'a>) -> Option<Command<'a>>
 {
     let seed = number_given(value(matches, "seed"), 0, 4_294_967_295)?;
     let sites = number_given(value(matches, "sites"), 1, 256)?;
-    Some(Command::Generate { seed, sites })
+    let generating = Generating {
+        seed: seed as u32,
+        sites: sites as u32,
+    };
+    Some(Command::Generate(generating))
 }

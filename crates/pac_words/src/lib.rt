@@ -14,6 +14,6 @@ mod quad;
 mod usual;
 mod words;
 
-pub use command::{Asking, Command, Running, Source};
+pub use command::{Asking, Command, Generating, Running, Source};
 pub use usual::{LOCAL, USUAL_FUEL, USUAL_PORT, USUAL_TRIES, USUAL_WAIT};
 pub use words::read_words;

@@ -1,14 +1,20 @@
--- What a host writes down of a run.
-use Rattle.std.specs.Prelude.{◌≡◌, true, false}
+-- What a host writes down of a run, and what it answers.
+use Rattle.std.specs.Prelude.{◌≡◌, Option, Some, None, true, false}
+use Rattle.pac_names.specs.declared.answer.Answer.{Answer}
 use Rattle.js_host.specs.Answers.{Name}
 use Rattle.js_host.specs.Seen.{is_one_too_many, with_name}
+use Rattle.js_host.specs.declared.host.Looked.{Looked}
+use Rattle.js_host.specs.declared.host.Looked.TheVariants.{Known, Missing, TooMany, Memory}
 use Rattle.tracing_host.specs.declared.trace.Trace.{Trace}
-use Rattle.tracing_host.specs.declared.trace.Noted.{Noted}
-use Rattle.tracing_host.specs.declared.trace.Noted.TheVariants.{Recorded, TooMany, Memory}
 
--- The name is written down if it is new, or it is one too many. After Memory all is as before.
-abbrev pub Notes : Trace → Name → Noted → Trace → Type 0
-Notes before name Recorded after =
+-- the name is written down if it is new
+abbrev pub Notes : Trace → Name → Trace → Type 0
+Notes before name after =
     (is_one_too_many before.asked name ≡ false) × (after ≡ record before { asked = with_name before.asked name })
-Notes before name TooMany after = (is_one_too_many before.asked name ≡ true) × (after ≡ before)
-Notes before name Memory after = after ≡ before
+
+-- What is known of the name is told and the name written down, or it is one too many. After Memory all is as before.
+abbrev pub Tells : Trace → Name → Option Answer → Looked → Trace → Type 0
+Tells before name known (Known answer) after = (known ≡ Some answer) × Notes before name after
+Tells before name known Missing after = (known ≡ None) × Notes before name after
+Tells before name known TooMany after = (is_one_too_many before.asked name ≡ true) × (after ≡ before)
+Tells before name known Memory after = after ≡ before

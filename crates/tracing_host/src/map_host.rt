@@ -4,7 +4,7 @@ ghost use Rattle.js_host.specs.Answers.{wholly};
 ghost use Rattle.js_host.specs.Seen.{fresh};
 
 use crate::NameList;
-use crate::trace::{Noted, Trace};
+use crate::trace::Trace;
 use answer_table::AnswerTable;
 use js_host::{Host, Looked, keep_alert};
 use pac_names::{Answer, LookupName};
@@ -62,11 +62,8 @@ impl<'m> Host for MapHost<'m> {
     ghost seen = { λ h. h };
 
     fn lookup(&mut self, alloc: Global, name: &LookupName) -> Looked {
-        match self.trace.note(alloc, name) {
-            Noted::Recorded => Looked::Known(self.map.get(name).unwrap_or(Answer::NoAddress)),
-            Noted::TooMany => Looked::TooMany,
-            Noted::Memory => Looked::Memory,
-        }
+        let answer = self.map.get(name).unwrap_or(Answer::NoAddress);
+        self.trace.look_up(alloc, name, Some(answer))
     }
 
     fn alert(&mut self, alloc: Global, text: &Text) -> Result<(), Memory> {

@@ -3,7 +3,8 @@ ghost use Rattle.std.specs.Prelude.{◌≡◌};
 ghost use Rattle.js_host.specs.Seen.{was_asked};
 
 use crate::NameList;
-use pac_names::{LookupName, MOST_NAMES};
+use js_host::Looked;
+use pac_names::{Answer, LookupName, MOST_NAMES};
 use std::alloc::Global;
 use utf16_text::TextList;
 
@@ -14,17 +15,9 @@ pub(crate) struct Trace {
     pub(crate) alerts: TextList,
 }
 
-/// Whether a name is written down.
-pub(crate) enum Noted {
-    Recorded,
-    /// The most names were asked before, and this is another.
-    TooMany,
-    Memory,
-}
-
 impl Trace {
     ghost use Rattle.std.specs.Prelude.{[]};
-    ghost use Rattle.tracing_host.specs.Trace.{Notes};
+    ghost use Rattle.tracing_host.specs.Trace.{Tells};
 
     /// Nothing yet. It takes no memory.
     pub(crate) fn new(alloc: Global) -> Trace
@@ -36,19 +29,26 @@ impl Trace {
         }
     }
 
-    /// Writes a name down if it is new.
-    pub(crate) fn note(&mut self, alloc: Global, name: &LookupName) -> Noted
-        ensures { Notes self.old name.now result self.new }
+    /// Looks up a name of which this is known, and writes it down if it is new.
+    pub(crate) fn look_up(
+        &mut self,
+        alloc: Global,
+        name: &LookupName,
+        known: Option<Answer>,
+    ) -> Looked
+        ensures { Tells self.old name.now known result self.new }
     {
-        if is_among(self.asked.as_slice(), name) {
-            return Noted::Recorded;
+        if !is_among(self.asked.as_slice(), name) {
+            if self.asked.len() >= MOST_NAMES {
+                return Looked::TooMany;
+            }
+            if self.asked.push(alloc, name.copy()).is_err() {
+                return Looked::Memory;
+            }
         }
-        if self.asked.len() >= MOST_NAMES {
-            return Noted::TooMany;
-        }
-        match self.asked.push(alloc, name.copy()) {
-            Ok(()) => Noted::Recorded,
-            Err(_) => Noted::Memory,
+        match known {
+            Some(answer) => Looked::Known(answer),
+            None => Looked::Missing,
         }
     }
 }

@@ -4,7 +4,7 @@ ghost use Rattle.js_host.specs.Answers.{partly};
 ghost use Rattle.js_host.specs.Seen.{fresh};
 
 use crate::NameList;
-use crate::trace::{Noted, Trace};
+use crate::trace::Trace;
 use answer_table::AnswerTable;
 use js_host::{Host, Looked, keep_alert};
 use pac_names::LookupName;
@@ -61,14 +61,8 @@ impl<'t> Host for TracingHost<'t> {
     ghost seen = { λ h. h };
 
     fn lookup(&mut self, alloc: Global, name: &LookupName) -> Looked {
-        match self.trace.note(alloc, name) {
-            Noted::Recorded => match self.table.get(name) {
-                Some(answer) => Looked::Known(answer),
-                None => Looked::Missing,
-            },
-            Noted::TooMany => Looked::TooMany,
-            Noted::Memory => Looked::Memory,
-        }
+        let answer = self.table.get(name);
+        self.trace.look_up(alloc, name, answer)
     }
 
     fn alert(&mut self, alloc: Global, text: &Text) -> Result<(), Memory> {

@@ -11,7 +11,6 @@ use Rattle.poll_log.specs.declared.terms.Terms.{Terms}
 use Rattle.poll_log.specs.Turns.{Turns}
 use Rattle.poll_log.specs.Told.{told}
 use Rattle.poll_log.specs.Jobs.{Job, runs_of}
-use Rattle.batch_text.specs.Batch.{BatchEntry}
 use Rattle.report_text.specs.Report.{End, UrlEnd, done}
 use Rattle.session_log.specs.Asked.{job_of}
 use Rattle.session_log.specs.Sessions.{Holds}
@@ -23,7 +22,6 @@ use Rattle.session_core.specs.Resolved.{AllEnded, HasEnded}
 use Rattle.url_runs.specs.declared.url_run.UrlRun.{UrlRun}
 use Rattle.url_runs.specs.Runs.{GivesOutcome, Resolved, outcome_of, seen_for, seen_run, tree_of, url_run}
 use Rattle.url_runs.specs.Ends.{end_of, session_end}
-use Rattle.url_runs.specs.Reports.{reported}
 use Rattle.url_runs.specs.Resolving.{end_by, ended, url_job}
 
 abbrev first_or : Resolved × def.Entry → List (Resolved × def.Entry) → Resolved × def.Entry
@@ -78,13 +76,13 @@ module _ (script : Resolved) (t : Terms) (h : Turns) (all : AnswerMap) (holds : 
       ∙ ap (λ (ends : List UrlEnd). ended script all t h (entry_of x) ∷ ends)
       (ends_are entries sessions (ap behind e) (All-tail HasEndedThen s sessions p) (All-tail IsCounted s sessions n))
 
-  -- all of the report
-  pub reported_are : (batch : List BatchEntry) (entries : List Entry) (runs : List UrlRun) (sessions : List (Session UrlRun Outcome)) → map seen_run runs ≡ map (seen_for script) entries
+  -- how it ended with each URL
+  pub urls_end : (entries : List Entry) (runs : List UrlRun) (sessions : List (Session UrlRun Outcome)) → map seen_run runs ≡ map (seen_for script) entries
       → AllEnded GivesOutcome tree_of runs t h sessions
-      → reported batch (map session_end sessions) ≡ reported batch (map (ended script all t h) (map entry_of entries))
-  reported_are batch entries runs sessions e ends =
+      → map session_end sessions ≡ map (ended script all t h) (map entry_of entries)
+  urls_end entries runs sessions e ends =
       let same : seen_runs sessions ≡ map (seen_for script) entries = ap (map seen_run) ends.runs_are ∙ e in
-      ap (reported batch) (ends_are entries sessions same ends.ended ends.counted)
+      ends_are entries sessions same ends.ended ends.counted
 
 -- what is polled for are the jobs of the URLs
 pub jobs_are : (script : Resolved) (entries : List Entry) (runs : List UrlRun) → map seen_run runs ≡ map (seen_for script) entries

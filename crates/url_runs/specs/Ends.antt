@@ -1,7 +1,24 @@
--- What is reported of sessions that have ended, as the code has them.
+-- How it ends with the URLs of a script that is run over a link, by the log.
+use Rattle.std.specs.Prelude.{◌≡◌, List, Result, Ok, Err, Vec, map}
+use Rattle.std.specs.declared.alloc.Global.{Global}
+use Rattle.pac_ports.specs.declared.link.Move.{Move}
+use Rattle.js_host.specs.Answers.{AnswerMap}
+use Rattle.js_evaluation.specs.Evaluation.{Entry}
+use Rattle.pac_plan.specs.Plan as plans
+use Rattle.pac_plan.specs.Plan.{Outside, faulted, whole}
+use Rattle.poll_log.specs.Turns.{turns_of}
+use Rattle.poll_log.specs.Told.{told}
+use Rattle.poll_loop.specs.Talks.{Talked}
+use Rattle.poll_loop.specs.declared.looping.Asking.{Asking}
+use Rattle.poll_loop.specs.declared.looping.Stop.{Stop}
+use Rattle.poll_loop.specs.declared.looping.Stop.TheVariants as stop
+use Rattle.session_log.specs.Sessions.{Holds}
+use Rattle.url_runs.specs.Runs.{Resolved}
+use Rattle.url_runs.specs.Resolving.{ended, urls_talk}
 use Rattle.js_interp.specs.declared.outcome.Outcome.{Outcome}
 use Rattle.js_interp.specs.Answers.{seen_outcome}
-use Rattle.report_text.specs.Report.{End, UrlEnd, done, unanswered}
+use Rattle.report_text.specs.Report.{End, UrlEnd, done, seen_end, unanswered}
+use Rattle.report_text.specs.declared.blocks.UrlEnd as code
 use Rattle.session_core.specs.declared.session.Session.{Session}
 use Rattle.session_core.specs.declared.session.State.{State}
 use Rattle.session_core.specs.declared.session.State.TheVariants.{Finished, Unanswered, Waiting}
@@ -14,3 +31,18 @@ end_of (Waiting name) = unanswered name
 
 abbrev pub session_end : Session UrlRun Outcome → UrlEnd
 session_end session = record { end = end_of session.state; runs = session.runs }
+
+-- ---- all URLs
+
+-- The talk for all URLs went to its end, and it ended so with each of them by its log, against every map of all names that
+-- holds what is told; or the link failed; or memory ran out in the talk or behind it.
+abbrev pub HaveEnded : Asking → Resolved → List Entry → Outside → Result (List UrlEnd) Stop → Outside → Type 0
+HaveEnded asking program entries old (Ok ends) new = (log : List Move) × Talked (urls_talk asking program entries) old whole log new
+    × ((answers : AnswerMap) → Holds answers (told asking.terms (turns_of log)) → ends ≡ map (ended program answers asking.terms (turns_of log)) entries)
+HaveEnded asking program entries old (Err stop.Link) new = (log : List Move) × Talked (urls_talk asking program entries) old faulted log new
+HaveEnded asking program entries old (Err stop.Memory) new = (end : plans.End) × (log : List Move) × Talked (urls_talk asking program entries) old end log new
+
+-- as the code has them
+abbrev pub seen_ends : Result (Vec code.UrlEnd Global) Stop → Result (List UrlEnd) Stop
+seen_ends (Ok ends) = Ok (map seen_end ends.items)
+seen_ends (Err e) = Err e

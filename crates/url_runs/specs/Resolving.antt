@@ -42,8 +42,12 @@ abbrev pub all_ended : Resolved → Completion → Terms → Turns → List Entr
 all_ended program complete terms turns entries =
     map (ended program (complete.answers terms turns) terms turns) entries
 
+-- what is polled for
+abbrev pub urls_talk : Asking → Resolved → List Entry → Talk
+urls_talk asking program entries = talk_of asking (map (url_job program) entries)
+
 -- polls for all of them, and reports by the log of the batch, for whose URLs these runs are
 abbrev pub resolve_plan : Completion → Asking → Resolved → List BatchEntry → List Entry → Plan Talk
 resolve_plan complete asking program batch entries =
-    talk (talk_of asking (map (url_job program) entries))
+    talk (urls_talk asking program entries)
     (λ log. reported batch (all_ended program complete asking.terms (turns_of log) entries))

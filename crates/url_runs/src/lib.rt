@@ -13,5 +13,5 @@ mod url_run;
 
 pub use laws::{completions_are_there, runs_are_few, tasks_are_sound};
 pub use mapping::map_urls;
-pub use resolving::resolve_urls;
+pub use resolving::{end_urls, resolve_urls};
 pub use url_run::UrlRun;

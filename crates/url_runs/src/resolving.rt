@@ -1,16 +1,15 @@
 // A script for URLs, over a link.
-ghost use Rattle.std.specs.Prelude.{◌≡◌, IfOk, map};
+ghost use Rattle.std.specs.Prelude.{◌≡◌, IfErr, IfOk, map};
 ghost use Rattle.js_interp.specs.Answers.{entry_of};
 ghost use Rattle.stub_poller.specs.Ready.{AreTerms};
 ghost use Rattle.pac_plan.specs.Plan.{Outside};
-ghost use Rattle.pac_plan.specs.Follows.{Follows, IsUnlessMemory};
+ghost use Rattle.pac_plan.specs.Follows.{Follows};
 ghost use Rattle.pac_plan.specs.OutputView.{made};
 ghost use Rattle.pac_ask.specs.Talks.{talks};
 ghost use Rattle.batch_text.specs.Batch.{entry_seen};
 ghost use Rattle.report_text.specs.Report.{seen, seen_end};
 ghost use Rattle.url_runs.specs.Runs.{program_of, seen_for, seen_run};
-ghost use Rattle.url_runs.specs.Ends.{end_of, session_end};
-ghost use Rattle.url_runs.specs.Reports as spec;
+ghost use Rattle.url_runs.specs.Ends.{HaveEnded, end_of, seen_ends, session_end};
 ghost use Rattle.url_runs.specs.Resolving as plan;
 ghost use Rattle.url_runs.specs.Resolving.{Completion};
 
@@ -46,11 +45,37 @@ pub fn resolve_urls<N: Link, D: Dice, L: Ledger>(
         (record o { link = N.state link.old; dice = D.told dice.old; runs = runs.old })
         (record o { link = N.state link.new; dice = D.told dice.new; runs = runs.new }) (made result) }
 {
-    let all = runs_for(alloc, program, entries)?;
-    match run_all(alloc, all, asking, link, dice, runs) {
-        Ok(sessions) => report_of(alloc, batch, sessions),
+    match end_urls(alloc, program, entries, asking, link, dice, runs) {
+        Ok(ends) => reported(alloc, batch, &ends),
         Err(Stop::Link) => line(alloc, Status::LinkFault, "fault link", "", ""),
         Err(Stop::Memory) => Err(Memory),
+    }
+}
+
+/// How it ends with each URL, in their order, where a script is run for all of them at once and the server is asked for
+/// the names that the runs miss. The entries are what the runs are for. Link comes where the link failed, Memory for
+/// want of it.
+pub fn end_urls<N: Link, D: Dice, L: Ledger>(
+    alloc: Global,
+    program: &Program,
+    entries: Vec<Entry>,
+    asking: Asking,
+    link: &mut N,
+    dice: &mut D,
+    runs: &mut Steps<L>,
+) -> Result<Vec<UrlEnd>, Stop>
+    requires { AreTerms asking.terms }
+    ensures { (o : Outside) → HaveEnded asking (program_of program.now) (map entry_of entries.items)
+        (record o { link = N.state link.old; dice = D.told dice.old; runs = runs.old }) (seen_ends result)
+        (record o { link = N.state link.new; dice = D.told dice.new; runs = runs.new }) }
+{
+    let Ok(all) = runs_for(alloc, program, entries) else {
+        return Err(Stop::Memory);
+    };
+    match run_all(alloc, all, asking, link, dice, runs) {
+        Ok(sessions) => ends_of(alloc, sessions),
+        Err(Stop::Link) => Err(Stop::Link),
+        Err(Stop::Memory) => Err(Stop::Memory),
     }
 }
 
@@ -68,23 +93,26 @@ fn runs_for<'p>(
     Ok(all)
 }
 
-/// The report of a batch whose sessions have ended.
-fn report_of<'p>(
+/// How these sessions ended, in their order. Memory comes for want of it, and nothing else.
+fn ends_of<'p>(
     alloc: Global,
-    batch: &Batch,
     sessions: Vec<Session<UrlRun<'p>, Outcome>>,
-) -> Result<Output, Memory>
-    ensures { IsUnlessMemory (spec.reported (map entry_seen batch.now) (map session_end sessions.entry.items)) (made result) }
+) -> Result<Vec<UrlEnd>, Stop>
+    ensures ends { IfOk result (λ ends. map seen_end ends.items ≡ map session_end sessions.entry.items) }
+    ensures memory { IfErr result (λ stop. stop ≡ Stop.Memory) }
 {
     let mut ends = Vec::new(alloc);
     for session in sessions {
         let Session { state, runs, .. } = session;
-        ends.push(UrlEnd {
+        let end = UrlEnd {
             end: end_of(state),
             runs,
-        })?;
+        };
+        if ends.push(end).is_err() {
+            return Err(Stop::Memory);
+        }
     }
-    reported(alloc, batch, &ends)
+    Ok(ends)
 }
 
 /// How a session ended.
