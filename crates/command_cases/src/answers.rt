@@ -1,11 +1,10 @@
 // What `pac` answers over a script and a names file, and where the clock shows a moment. It has no link.
 use crate::calls::{status_at, status_of};
-use crate::narrow_sink::NarrowSink;
 use crate::network::Network;
 use anyhow::{Result, bail};
 use case_rows::{octets, written_octets};
 use pac_command::Status;
-use pac_ports::{MemoryFiles, MemorySink, Sink};
+use pac_ports::{MemoryFiles, MemorySink};
 use std::alloc::Global;
 
 pub(crate) fn plain(alloc: Global, fields: &[&str]) -> Result<String> {
@@ -89,52 +88,28 @@ fn files_of(alloc: Global, script: &[u8], names: &[u8]) -> Result<MemoryFiles> {
 }
 
 /// The status of words over files and a sink alone.
-fn answer_over<K: Sink>(
+fn answer_over(
     alloc: Global,
     words: &str,
     files: &mut MemoryFiles,
-    out: &mut K,
+    out: &mut MemorySink,
 ) -> Result<Status> {
     let mut network = Network::none(alloc)?;
     status_of(alloc, words, files, out, &mut network)
 }
 
-/// The answer to the last of so many runs over the same files and sink, and what all of them wrote.
-pub(crate) fn failing(alloc: Global, fields: &[&str]) -> Result<String> {
-    let [script, words, reading, writing, runs] = fields else {
-        bail!("a script, words, the calls that fail, and a count of runs");
+/// The answer to the same words once more over the same files and sink, and what both calls wrote.
+pub(crate) fn called_twice(alloc: Global, fields: &[&str]) -> Result<String> {
+    let [script, words, reading, writing] = fields else {
+        bail!("a script, words, and the calls of files and of the sink that fail");
     };
     let mut files = files_of(alloc, &octets(alloc, script)?, b"")?;
     files.fail_at(alloc, reading.parse::<u64>()?)?;
     let mut out = MemorySink::new(alloc, 1000)?;
     out.fail_at(alloc, writing.parse::<u64>()?)?;
-    let last = last_of(alloc, runs.parse::<u32>()?, words, &mut files, &mut out)?;
-    written(alloc, last, out.bytes())
-}
-
-/// The status of the last of so many runs, of which there is at least one.
-fn last_of(
-    alloc: Global,
-    runs: u32,
-    words: &str,
-    files: &mut MemoryFiles,
-    out: &mut MemorySink,
-) -> Result<Status> {
-    let mut last = answer_over(alloc, words, files, out)?;
-    for _run in 1..runs {
-        last = answer_over(alloc, words, files, out)?;
-    }
-    Ok(last)
-}
-
-pub(crate) fn narrow(alloc: Global, fields: &[&str]) -> Result<String> {
-    let [script, words, writing] = fields else {
-        bail!("a script, words, and the call of the sink that fails");
-    };
-    let mut files = files_of(alloc, &octets(alloc, script)?, b"")?;
-    let mut out = NarrowSink::new(alloc, writing.parse::<u64>()?);
-    let status = answer_over(alloc, words, &mut files, &mut out)?;
-    written(alloc, status, out.bytes())
+    let _first = answer_over(alloc, words, &mut files, &mut out)?;
+    let second = answer_over(alloc, words, &mut files, &mut out)?;
+    written(alloc, second, out.bytes())
 }
 
 /// A status, and what is written, as rows tell them.

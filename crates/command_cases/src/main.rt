@@ -11,7 +11,6 @@ mod coming;
 mod datagrams;
 mod messages;
 mod moves;
-mod narrow_sink;
 mod network;
 mod reports;
 
@@ -30,12 +29,11 @@ fn answer(alloc: Global, part: &str, fields: &[&str]) -> Result<String> {
         "nested brackets" => answers::nested(alloc, fields),
         "long scripts" => answers::long(alloc, fields),
         "long names files" => answers::long_names(alloc, fields),
-        "failing ports" => answers::failing(alloc, fields),
-        "narrow sink" => answers::narrow(alloc, fields),
+        "called twice" => answers::called_twice(alloc, fields),
         "URLs" => reports::url(alloc, fields),
         "batches" => reports::batch(alloc, fields),
         "maps" => reports::map(alloc, fields),
-        "failing sinks" => reports::failing(alloc, fields),
+        "failing ports" => reports::failing(alloc, fields),
         "counted lines" => reports::counted(alloc, fields),
         "asked names" => asking::asked(alloc, fields),
         "datagrams" => datagrams::outcomes(alloc, fields),

@@ -2,7 +2,7 @@
 use crate::calls::status_of;
 use crate::moves::{self, Form};
 use crate::network::Network;
-use anyhow::{Context, Result, bail};
+use anyhow::{Context, Result, bail, ensure};
 use case_rows::{octets, written_octets};
 use pac_command::Status;
 use pac_ports::{MemoryFiles, MemorySink};
@@ -32,22 +32,31 @@ pub(crate) fn map(alloc: Global, fields: &[&str]) -> Result<String> {
     let [script, names, batch, words] = fields else {
         bail!("a script, a names file, a batch and words");
     };
+    let mut files = files_of(alloc, script, names, batch)?;
+    over(alloc, words, &mut files, "0", "fails:1")
+}
+
+/// Files of which a call fails, and a sink that takes at most a step of each piece and of which a call fails; 0 is none.
+pub(crate) fn failing(alloc: Global, fields: &[&str]) -> Result<String> {
+    let [script, names, batch, words, coming, reading, step, writing] = fields else {
+        bail!("three files, words, what comes, the files' call, a step and the sink's call");
+    };
+    let mut files = files_of(alloc, script, names, batch)?;
+    files.fail_at(alloc, reading.parse::<u64>()?)?;
+    let step = step.parse::<usize>()?;
+    ensure!(step > 0, "a step");
+    let mut out = MemorySink::with_step(alloc, 1000, step)?;
+    out.fail_at(alloc, writing.parse::<u64>()?)?;
+    told_of(alloc, words, &mut files, &mut out, "4660", coming)
+}
+
+/// A script, a names file and a batch.
+fn files_of(alloc: Global, script: &str, names: &str, batch: &str) -> Result<MemoryFiles> {
     let mut files = MemoryFiles::new(alloc);
     add(alloc, &mut files, "s.pac", script)?;
     add(alloc, &mut files, "n", names)?;
     add(alloc, &mut files, "b", batch)?;
-    over(alloc, words, &mut files, "0", "fails:1")
-}
-
-pub(crate) fn failing(alloc: Global, fields: &[&str]) -> Result<String> {
-    let [script, words, dice, coming, call] = fields else {
-        bail!("a script, words, the dice's numbers, what comes, and the sink's call that fails");
-    };
-    let mut files = MemoryFiles::new(alloc);
-    add(alloc, &mut files, "s.pac", script)?;
-    let mut out = MemorySink::new(alloc, 100_000)?;
-    out.fail_at(alloc, call.parse::<u64>()?)?;
-    told_of(alloc, words, &mut files, &mut out, dice, coming)
+    Ok(files)
 }
 
 /// Adds the octets that a field writes.

@@ -1,24 +1,14 @@
 //! The program `pac`: makes the real outside, does what the words ask for and exits with the status.
 //!
-//! All that matters is `pac` of pac_command; here stand the adapters to real files, standard output and the machine's
-//! clock, a few lines each, and those of pac_net to the network are made. They are the trusted edge: that they do what
-//! they say is the machine's matter.
+//! All that matters is `pac` of pac_command. The adapters to the machine are those of pac_machine and pac_net. They are
+//! the trusted edge: that they do what they say is the machine's matter.
 #![tactic(auto)]
-
-mod disk_files;
-mod machine_clock;
-mod standard_output;
-#[cfg(test)]
-mod tests;
-mod words;
 
 ghost use Rattle.std.specs.Prelude.{◌≡◌, ◌<◌};
 
-use disk_files::DiskFiles;
-use machine_clock::MachineClock;
 use pac_command::{Status, pac};
+use pac_machine::{DiskFiles, MachineClock, StandardOutput, words_of};
 use pac_net::{RandomDice, UdpLink};
-use standard_output::StandardOutput;
 use std::io;
 use std::marker::Brand;
 use std::net::Net;
@@ -27,7 +17,6 @@ use std::random::RandomSource;
 use std::sync::ledger::{Blank, Ledger};
 use std::time::Clock;
 use step_counter::Steps;
-use words::words_of;
 
 fn main(rt: HostRuntime) -> ExitCode {
     let status = match words_of(&rt) {

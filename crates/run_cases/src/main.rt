@@ -27,7 +27,7 @@ fn main(rt: HostRuntime) -> Result<()> {
 fn answer(alloc: Global, part: &str, fields: &[&str]) -> Result<String> {
     match part {
         "values" | "natives" | "left out" => value(alloc, fields),
-        "bodies" => outcome(alloc, with_body(alloc, fields)?.as_str(), FUEL),
+        "bodies" | "limits" => outcome(alloc, with_body(alloc, fields)?.as_str(), FUEL),
         "unknown names" => outcome_of_known(alloc, with_body(alloc, fields)?.as_str(), FUEL),
         "scripts" => outcome(alloc, only(fields)?, FUEL),
         "counts" => counted(alloc, only(fields)?, FUEL),

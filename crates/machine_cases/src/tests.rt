@@ -1,5 +1,5 @@
 // The adapter over an outside that is interrupted.
-use crate::standard_output::StandardOutput;
+use pac_machine::StandardOutput;
 use pac_ports::put;
 use std::cell::Cell;
 use std::fmt::Display;
