@@ -116,7 +116,8 @@ class Server(threading.Thread):
                 datagram, near = self.socket.recvfrom(512)
             except OSError:
                 continue
-            self.take(datagram, near)
+            if datagram:
+                self.take(datagram, near)
 
     def send_due(self):
         while self.waiting and self.waiting[0][0] <= time.monotonic():
@@ -131,14 +132,25 @@ class Server(threading.Thread):
         for count, (delay, piece) in enumerate(self.make(Asked(name_in(datagram), datagram, near, len(asked), place))):
             heapq.heappush(self.waiting, (now + delay, (place, count), piece, near))
 
-    def resolved(self, script, urls, *options):
-        """What `pac resolve` writes for a batch beside this server, and its status."""
+    def beside(self, call):
+        """What a call gives that is made beside this server and handed its port."""
         self.start()
-        found = resolve(self.socket.getsockname()[1], script, urls, *options)
+        try:
+            return call(self.socket.getsockname()[1])
+        finally:
+            self.stop()
+
+    def stop(self):
+        """Ends the server, which an empty datagram wakes."""
         self.is_done.set()
+        with bound() as other:
+            other.sendto(b"", self.socket.getsockname())
         self.join()
         self.socket.close()
-        return found
+
+    def resolved(self, script, urls, *options):
+        """What `pac resolve` writes for a batch beside this server, and its status."""
+        return self.beside(lambda port: resolve(port, script, urls, *options))
 
     def is_sound(self):
         """Whether all that came were questions, each name under one number."""
