@@ -113,5 +113,7 @@ build_first() {
 }
 
 is_current || build_first
+# Where there is no standard output, a socket of the program would take its number, and be sent what is to be written.
+{ : 8>&1; } 2>/dev/null || exec >/dev/full
 exec "$program" "$@"
 fail "$program can't be run"
