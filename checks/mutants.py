@@ -114,7 +114,7 @@ class Mutants:
         words += chance.choice([[], [], ["--my-ip", "10.2.3.4"], ["--zone=+05:00"], ["--zone=-23:59"]])
         urls = max(1, files.get("batch", b"").count(b"get"))
         fuel = FUEL // urls // (AGAIN if command == "resolve" else 1)
-        fixed = [f"--fuel={chance.choice([1, 5, 20, 300, fuel, fuel, fuel, f'{fuel:020}'])}"]
+        fixed = [f"--fuel={chance.choice([1, 20, 300, f'{fuel:020}'] + [fuel] * 8)}"]
         fixed += [f"--now={chance.choice(FORMS['moment'][:6])}"]
         words = fixed + changed_words(chance, words)
         server, options = server_of(chance, urls <= 8) if command == "resolve" else (None, [])
