@@ -12,7 +12,8 @@ import tempfile
 from examples import PROGRAM
 
 URL = "http://a.example/"
-MOMENTS = {"23:00": 1700089200, "13:30": 1700055000, "9:00": 1700038800, "a Saturday": 1700300000, "15 March": 1710504000}
+MOMENTS = {"23:00": 1700089200, "13:30": 1700055000, "9:00": 1700038800}
+MOMENTS |= {"a Saturday": 1700300000, "15 March": 1710504000}
 SCRIPT = re.compile(r"^( *)```\n(.*?)^ *```\n\n(.*?)(?:\n\n|\Z)", re.M | re.S)
 
 
