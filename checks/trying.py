@@ -1,4 +1,4 @@
-"""Checks `./try` and `checks/edits` without a proof: on copies of them beside crates of their own, with an `rt` of ours.
+"""Checks `./try` and `checks/edits` without a proof: on copies of them beside crates of their own, with an own `rt`.
 
 That `rt try` compiles nothing. It writes the words that the program would get, and for the name of a file that was
 handed to it the file's text in brackets. That `rt must-fail` says what a file tells it to.
@@ -13,8 +13,7 @@ import time
 
 from building import expect, is_alive
 
-RT = """#!/usr/bin/env python3
-import os, sys, time
+RT = f"#!{sys.executable}\n" + """import os, sys, time
 room, words = os.environ["ROOM"], sys.argv[1:]
 if words[0] == "must-fail":
     for crate in words[1:]:
@@ -73,12 +72,13 @@ class Copy:
             file.write(text)
 
     def start(self, command, *words, toolchain=True, **pipes):
-        # the machine's own toolchain is not found
+        # the machine's own toolchain is not found, and perhaps no python3 beside it
         folders = [it for it in os.environ["PATH"].split(":") if not os.path.exists(os.path.join(it, "rt"))]
         folders = [self.path("bin")] * toolchain + folders
         places = {"PATH": ":".join(folders), "ROOM": self.room, "TMPDIR": self.path("temporary")}
-        pipes = {"stdin": subprocess.DEVNULL, "stdout": subprocess.PIPE, "stderr": subprocess.PIPE, "text": True, **pipes}
-        return subprocess.Popen([self.path(command), *words], cwd=self.path("here"), env={**os.environ, **places}, **pipes)
+        how = {"cwd": self.path("here"), "env": {**os.environ, **places}, "text": True, "stdin": subprocess.DEVNULL}
+        how.update({"stdout": subprocess.PIPE, "stderr": subprocess.PIPE, **pipes})
+        return subprocess.Popen([sys.executable, self.path(command), *words], **how)
 
     def call(self, command, *words, **how):
         """The output, the errors and the status of a call, behind which no file may be left."""
@@ -116,8 +116,9 @@ def keeps_dashes_in_front(copy):
 
 
 def leaves_other_words_alone(copy):
-    for words in [[], ["ask", "s.pac"], ["s.pac"], ["map"], ["map", "absent", URL, "--names"], ["map", "a b", "--zone="],
-                  ["check", "--names"], ["check", ""], ["resolve", "absent", "http", "--server", "s.pac", "-h", "-"]]:
+    rows = [[], ["ask", "s.pac"], ["s.pac"], ["map"], ["map", "absent", URL, "--names"], ["map", "a b", "--zone="]]
+    rows += [["check", "--names"], ["check", ""], ["resolve", "absent", "http", "--server", "s.pac", "-h", "-"]]
+    for words in rows:
         expect_words(copy, words, words)
 
 

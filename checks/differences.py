@@ -1,0 +1,63 @@
+"""Runs each script of docs/DIFFERENCES.md and compares what it comes to with what the page says that it does here.
+
+Behind each script stands a sentence with the answer here, the first one in backquotes behind the word 'here'. Before it
+may stand a URL and a moment; the others are those below.
+"""
+import os
+import re
+import subprocess
+import sys
+import tempfile
+
+from examples import PROGRAM
+
+URL = "http://a.example/"
+MOMENTS = {"23:00": 1700089200, "13:30": 1700055000, "9:00": 1700038800}
+MOMENTS |= {"a Saturday": 1700300000, "15 March": 1710504000}
+SCRIPT = re.compile(r"^( *)```\n(.*?)^ *```\n\n(.*?)(?:\n\n|\Z)", re.M | re.S)
+
+
+def scripts():
+    """Each script with the sentence behind it."""
+    with open("docs/DIFFERENCES.md", encoding="utf-8") as file:
+        for indent, script, sentence in SCRIPT.findall(file.read()):
+            yield re.sub(f"^{indent}", "", script, flags=re.M), " ".join(sentence.split())
+
+
+def url_of(sentence):
+    named = re.search(r"[Ff]or `(\w+://[^`]*)`( and 1,000 letters behind it)?", sentence)
+    return (named[1] + "x" * 1000 * bool(named[2])) if named else URL
+
+
+def words_of(sentence):
+    moment = next((seconds for name, seconds in MOMENTS.items() if re.search(rf"\b([Aa]t|On) {name}", sentence)), None)
+    return [url_of(sentence), "--names", os.devnull, *(["--now", str(moment)] if moment else [])]
+
+
+def lines_of(script, sentence):
+    """What the program writes of the script."""
+    with tempfile.TemporaryDirectory() as room:
+        path = os.path.join(room, "script.pac")
+        with open(path, "w", encoding="utf-8") as file:
+            file.write(script)
+        words = [PROGRAM, "map", path, *words_of(sentence)]
+        return subprocess.run(words, capture_output=True, text=True, timeout=60, check=False).stdout.splitlines()
+
+
+def main():
+    number = failed = 0
+    for script, sentence in scripts():
+        number += 1
+        said = re.search(r"\b[Hh]ere\b[^`]*`([^`]*)`", sentence)
+        lines = lines_of(script, sentence)
+        if not said or not {said[1], f"result {said[1]}"} & {*lines}:
+            failed += 1
+            print(f"checks: docs/DIFFERENCES.md: {sentence[:80]!r} in place of {lines!r}")
+    if not number:
+        print("checks: docs/DIFFERENCES.md: no script")
+    print("checks of differences:", f"{failed} failed of {number}" if failed else f"{number} passed")
+    return 1 if failed or not number else 0
+
+
+if __name__ == "__main__":
+    sys.exit(main())
