@@ -1,6 +1,7 @@
 -- Which events are beats, and how many events there are between them.
-use Rattle.std.proofs.Common.{◌≡◌, ◌≢◌, ℕ, ◌+◌, ◌*◌, ◌/◌, ◌%◌, ◌<◌, ◌≤◌, Bool, true, false, cond, List, [], ◌∷◌, length, refl, sym, ◌∙◌, ap, arith, ◌==◌}
+use Rattle.std.proofs.Common.{◌≡◌, ◌≢◌, ℕ, ◌+◌, ◌-◌, ◌*◌, ◌/◌, ◌%◌, ◌<◌, ◌≤◌, Bool, true, false, cond, List, [], ◌∷◌, length, refl, sym, ◌∙◌, ap, arith, ◌==◌}
 use Rattle.std.proofs.lemmas.Bool.{eqb-true, eqb-false, eq-eqb}
+use Rattle.poll_log.specs.declared.terms.TheConstants.{FLOOD}
 use Rattle.poll_log.specs.Turns.{Turns, Begin, Then, Event, Given, Tick}
 use Rattle.poll_log.specs.Beats.{ticks, stretches, last_stretch, one_more, first_or_none, floods, beats, is_beat, events, beat_of}
 
@@ -37,35 +38,35 @@ tick_is_beat h = eq-eqb _ _ (omega arith)
 abbrev others : Turns → ℕ
 others h = floods (rest (stretches h))
 
-beats_split : (h : Turns) → beats h ≡ ticks h + (last_stretch h / 4096 + others h)
+beats_split : (h : Turns) → beats h ≡ ticks h + (last_stretch h / FLOOD + others h)
 unfolding beats
 beats_split h = ap (λ l. ticks h + floods l) (stretches_cons h)
 
-given_split : (h : Turns) (d : List ℕ) (sent : List (List ℕ)) → beats (Then h (Given d) sent) ≡ ticks h + ((last_stretch h + 1) / 4096 + others h)
+given_split : (h : Turns) (d : List ℕ) (sent : List (List ℕ)) → beats (Then h (Given d) sent) ≡ ticks h + ((last_stretch h + 1) / FLOOD + others h)
 unfolding beats ticks stretches
 given_split h d sent = ap (λ l. ticks h + floods (one_more l)) (stretches_cons h)
 
 -- both tests on plain numbers
-flooded : (t g s b c : ℕ) → b ≡ t + (g / 4096 + s) → c ≡ t + ((g + 1) / 4096 + s) → (c == b + 1) ≡ (g % 4096 + 1 == 4096)
-flooded t g s b c e f = go (c == b + 1) (g % 4096 + 1 == 4096) refl refl
+flooded : (t g s b c : ℕ) → b ≡ t + (g / FLOOD + s) → c ≡ t + ((g + 1) / FLOOD + s) → (c == b + 1) ≡ (g % FLOOD + 1 == FLOOD)
+flooded t g s b c e f = go (c == b + 1) (g % FLOOD + 1 == FLOOD) refl refl
   where
-    go : (x y : Bool) → (c == b + 1) ≡ x → (g % 4096 + 1 == 4096) ≡ y → x ≡ y
+    go : (x y : Bool) → (c == b + 1) ≡ x → (g % FLOOD + 1 == FLOOD) ≡ y → x ≡ y
     go true true h k = refl
     go true false h k = (let p : c ≡ b + 1 = eqb-true _ _ h in absurd (eqb-false _ _ k (omega arith)))
-    go false true h k = (let p : g % 4096 + 1 ≡ 4096 = eqb-true _ _ k in absurd (eqb-false _ _ h (omega arith)))
+    go false true h k = (let p : g % FLOOD + 1 ≡ FLOOD = eqb-true _ _ k in absurd (eqb-false _ _ h (omega arith)))
     go false false h k = refl
 
--- a datagram is a beat where 4,096 came since the last one
-pub given_is_beat : (h : Turns) (d : List ℕ) → is_beat h (Given d) ≡ (last_stretch h % 4096 + 1 == 4096)
+-- a datagram is a beat where a flood came since the last one
+pub given_is_beat : (h : Turns) (d : List ℕ) → is_beat h (Given d) ≡ (last_stretch h % FLOOD + 1 == FLOOD)
 unfolding is_beat
 given_is_beat h d = flooded (ticks h) (last_stretch h) (others h) (beats h) (beats (Then h (Given d) [])) (beats_split h) (given_split h d [])
 
-raised : (t g s b c : ℕ) → b ≡ t + (g / 4096 + s) → c ≡ t + ((g + 1) / 4096 + s) → c ≡ b + cond (g % 4096 + 1 == 4096) 1 0
-raised t g s b c e f = go (g % 4096 + 1 == 4096) refl
+raised : (t g s b c : ℕ) → b ≡ t + (g / FLOOD + s) → c ≡ t + ((g + 1) / FLOOD + s) → c ≡ b + cond (g % FLOOD + 1 == FLOOD) 1 0
+raised t g s b c e f = go (g % FLOOD + 1 == FLOOD) refl
   where
-    go : (y : Bool) → (g % 4096 + 1 == 4096) ≡ y → c ≡ b + cond y 1 0
-    go true k = (let p : g % 4096 + 1 ≡ 4096 = eqb-true _ _ k in omega arith)
-    go false k = (let p : g % 4096 + 1 ≢ 4096 = eqb-false _ _ k in omega arith)
+    go : (y : Bool) → (g % FLOOD + 1 == FLOOD) ≡ y → c ≡ b + cond y 1 0
+    go true k = (let p : g % FLOOD + 1 ≡ FLOOD = eqb-true _ _ k in omega arith)
+    go false k = (let p : g % FLOOD + 1 ≢ FLOOD = eqb-false _ _ k in omega arith)
 
 tick_beats : (h : Turns) (sent : List (List ℕ)) → beats (Then h Tick sent) ≡ beats h + 1
 unfolding beats ticks stretches
@@ -93,7 +94,7 @@ total [] = 0
 total (g ∷ gs) = g + total gs
 
 -- each stretch has fewer than a flood more than its beats
-total_floods : (gs : List ℕ) → total gs ≤ 4096 * floods gs + 4095 * length gs
+total_floods : (gs : List ℕ) → total gs ≤ FLOOD * floods gs + (FLOOD - 1) * length gs
 unfolding total
 total_floods [] = omega arith
 total_floods (g ∷ gs) = let ih = total_floods gs in omega arith
@@ -109,6 +110,6 @@ counted (Then h (Given d) sent) = go (stretches h) (counted h)
     go (g ∷ gs) c = (omega arith, omega arith)
 
 -- fewer events than a flood for each beat and one more
-pub events_by_beats : (h : Turns) → events h < 4096 * (beats h + 1)
+pub events_by_beats : (h : Turns) → events h < FLOOD * (beats h + 1)
 unfolding beats
 events_by_beats h = let c = counted h in (let t = total_floods (stretches h) in omega arith)

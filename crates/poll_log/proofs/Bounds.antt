@@ -6,12 +6,13 @@ use Rattle.std.proofs.lemmas.Bool.Decides.{nat_tests}
 use Rattle.std.proofs.Math.Nat.{mul-le-mul_left}
 use Rattle.pac_names.specs.declared.answer.Answer.{Answer}
 use Rattle.poll_log.specs.declared.question.Question.{Question}
+use Rattle.poll_log.specs.declared.terms.TheConstants.{FLOOD}
 use Rattle.poll_log.specs.declared.terms.Terms.{Terms}
 use Rattle.poll_log.specs.Turns.{Turns, Begin, Then, Event}
 use Rattle.poll_log.specs.Beats.{beats, events, beat_of, is_beat}
 use Rattle.poll_log.specs.Questions.{firsts, was_sent, names_of, same_name}
 use Rattle.poll_log.specs.Told.{Map, age, limit, accepted, told, or_else, is_dead}
-use Rattle.poll_log.specs.Jobs.{Job, waits_unless, is_waiting, some_wait, told_to, runs_of, SendsOwed, WaitsBefore, wanted}
+use Rattle.poll_log.specs.Jobs.{Job, waits_unless, is_waiting, some_wait, told_to, runs_of, IsCut, SendsOwed, WaitsBefore, wanted}
 use Rattle.poll_log.specs.Laws.{Extends, IsRestartable, IsBounded}
 use Rattle.poll_log.proofs.Names.{has, has-names, once-covers, none_some, true_false, or-true, same_itself}
 use Rattle.poll_log.proofs.BeatLaws.{beats_more, beats-begin, events-begin, events-then, events_by_beats}
@@ -156,10 +157,10 @@ beats_waiting most t jobs h laws o e =
     let turn : limit t * most ≡ most * limit t = omega arith in
     omega arith
 
-events_below : (most : ℕ) (t : Terms) (h : Turns) → beats h + 1 ≤ most * limit t → events h < 4096 * (most * limit t)
+events_below : (most : ℕ) (t : Terms) (h : Turns) → beats h + 1 ≤ most * limit t → events h < FLOOD * (most * limit t)
 events_below most t h b =
-    let e : events h < 4096 * (beats h + 1) = events_by_beats h in
-    let m : 4096 * (beats h + 1) ≤ 4096 * (most * limit t) = mul-le-mul_left 4096 b in
+    let e : events h < FLOOD * (beats h + 1) = events_by_beats h in
+    let m : FLOOD * (beats h + 1) ≤ FLOOD * (most * limit t) = mul-le-mul_left FLOOD b in
     omega arith
 
 pub bounded : (most : ℕ) (t : Terms) (jobs : List Job) (h : Turns) → All (IsRestartable most) jobs → SendsOwed t jobs h → WaitsBefore t jobs h → IsBounded most t jobs h
@@ -173,13 +174,19 @@ bounded most t jobs (Then h e sent) laws o w =
     let before : beats h + 1 ≤ most * limit t = beats_waiting most t jobs h laws o.0 w.1 in
     record {
       few_beats = one (is_beat h e) (beats_more h e sent) before;
-      few_events = let f : events h < 4096 * (most * limit t) = events_below most t h before in (let n = events-then h e sent in omega arith);
+      few_events = let f : events h < FLOOD * (most * limit t) = events_below most t h before in (let n = events-then h e sent in omega arith);
       waiting = λ k. events_below most t (Then h e sent) (beats_waiting most t jobs (Then h e sent) laws o k);
     }
   where
     one : (b : Bool) → beats (Then h e sent) ≡ beats h + cond b 1 0 → beats h + 1 ≤ most * limit t → beats (Then h e sent) ≤ most * limit t
     one true i k = omega arith
     one false i k = omega arith
+
+-- a log that is cut short has no more events
+pub cut_few : (most : ℕ) (t : Terms) (jobs : List Job) (h : Turns) → All (IsRestartable most) jobs → IsCut t jobs h → events h ≤ FLOOD * (most * limit t)
+unfolding events
+cut_few most t jobs (Begin sent) laws cut = omega arith
+cut_few most t jobs (Then h e sent) laws cut = (bounded most t jobs (Then h e (sent ++ cut.unsent)) laws cut.sends cut.waits).few_events
 
 -- the run bound
 pub runs_bound : (most : ℕ) (t : Terms) (h : Turns) (job : Job) (law : IsRestartable most job) → runs_of t h job ≤ law.depth (told t h) + 1

@@ -1,11 +1,12 @@
 -- A flood of empty datagrams is a beat, which ends a name that is sent once.
-use Rattle.std.proofs.Common.{◌≡◌, ℕ, zero, suc, ◌+◌, ◌/◌, Bool, true, false, cond, ◌&&◌, nat_le, List, [], ◌∷◌, Option, Some, None, is_none, refl, sym, ◌∙◌, ap, subst, arith}
+use Rattle.std.proofs.Common.{◌≡◌, ℕ, zero, suc, ◌+◌, ◌-◌, ◌/◌, Bool, true, false, cond, ◌&&◌, nat_le, List, [], ◌∷◌, Option, Some, None, is_none, refl, sym, ◌∙◌, ap, subst, arith}
 use Rattle.std.specs.Prelude.{replicate}
 use Rattle.std.proofs.Math.Bool.{and-false}
 use Rattle.pac_ports.specs.declared.link.Move.{Move}
 use Rattle.pac_ports.specs.declared.link.Move.TheVariants as move
 use Rattle.dns_message.specs.Question.{question_octets}
 use Rattle.dns_message.proofs.Replies.{no_header}
+use Rattle.poll_log.specs.declared.terms.TheConstants.{FLOOD}
 use Rattle.poll_log.specs.Turns.{Turns, Begin, Then, Given, turns_of, with_moves}
 use Rattle.poll_log.specs.Beats.{beats, floods, ticks, stretches}
 use Rattle.poll_log.specs.Questions.{asked_by, before_birth, firsts, new_among, number_in, was_sent}
@@ -89,7 +90,7 @@ begun_ticks : ticks begun ≡ 0
 unfolding ticks begun
 begun_ticks = refl
 
-flood_beats : (n : ℕ) → beats (flood n) ≡ n / 4096
+flood_beats : (n : ℕ) → beats (flood n) ≡ n / FLOOD
 unfolding beats
 flood_beats n =
     let s = many_stretches n 0 [] begun begun_stretches in
@@ -100,7 +101,7 @@ flood_beats n =
     beats_by h = ticks h + floods (stretches h)
 
 -- its age is the number of beats
-flood_age : (n : ℕ) → age (flood n) example ≡ n / 4096
+flood_age : (n : ℕ) → age (flood n) example ≡ n / FLOOD
 flood_age n =
     let q = flood_quiet n in
     let since = age_since_birth (flood n) example q.sent in
@@ -109,19 +110,19 @@ flood_age n =
     omega arith
 
 -- 4,096 of them are a beat, and the name is dead; one fewer is none, and it is not
-pub flood-dead : is_dead once_only (flood 4096) example ≡ true
+pub flood-dead : is_dead once_only (flood FLOOD) example ≡ true
 unfolding is_dead
 flood-dead =
-    let q = flood_quiet 4096 in
-    ap (λ b. (b && is_none (told once_only (flood 4096) example)) && nat_le 1 (age (flood 4096) example)) q.sent
-    ∙ ap (λ r. is_none r && nat_le 1 (age (flood 4096) example)) q.untold
-    ∙ ap (nat_le 1) (flood_age 4096)
+    let q = flood_quiet FLOOD in
+    ap (λ b. (b && is_none (told once_only (flood FLOOD) example)) && nat_le 1 (age (flood FLOOD) example)) q.sent
+    ∙ ap (λ r. is_none r && nat_le 1 (age (flood FLOOD) example)) q.untold
+    ∙ ap (nat_le 1) (flood_age FLOOD)
 
-pub flood-alive : is_dead once_only (flood 4095) example ≡ false
+pub flood-alive : is_dead once_only (flood (FLOOD - 1)) example ≡ false
 unfolding is_dead
 flood-alive =
-    ap (λ a. (was_sent (flood 4095) example && is_none (told once_only (flood 4095) example)) && nat_le 1 a) (flood_age 4095)
-    ∙ and-false (was_sent (flood 4095) example && is_none (told once_only (flood 4095) example))
+    ap (λ a. (was_sent (flood (FLOOD - 1)) example && is_none (told once_only (flood (FLOOD - 1)) example)) && nat_le 1 a) (flood_age (FLOOD - 1))
+    ∙ and-false (was_sent (flood (FLOOD - 1)) example && is_none (told once_only (flood (FLOOD - 1)) example))
 
-pub flood-runs : runs_of once_only (flood 4096) job ≡ 1
-flood-runs = (flood_quiet 4096).cost
+pub flood-runs : runs_of once_only (flood FLOOD) job ≡ 1
+flood-runs = (flood_quiet FLOOD).cost

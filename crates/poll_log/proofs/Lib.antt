@@ -10,3 +10,4 @@ pub mod Grows
 pub mod Births
 pub mod Orders
 pub mod Flood
+pub mod Finished

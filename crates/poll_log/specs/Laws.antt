@@ -1,5 +1,5 @@
 -- The laws of a log, for any jobs that obey the extension law.
-use Rattle.std.specs.Prelude.{◌≡◌, ℕ, ◌+◌, ◌*◌, ◌<◌, ◌≤◌, true, Option, Some, None, IsSome, List, [], ◌∷◌, ◌++◌, length, if◌then◌else◌}
+use Rattle.std.specs.Prelude.{◌≡◌, ℕ, ◌+◌, ◌*◌, ◌<◌, ◌≤◌, true, false, Option, Some, None, IsSome, List, [], ◌∷◌, ◌++◌, length, if◌then◌else◌}
 use Rattle.std.specs.List.{All}
 use Rattle.pac_names.specs.declared.answer.Answer.{Answer}
 use Rattle.pac_ports.specs.declared.link.Move.{Move}
@@ -98,6 +98,16 @@ abbrev pub UnansweredStays : Type 0
 UnansweredStays =
     (most : ℕ) (terms : Terms) (moves more : List Move) (job : Job) (n : List ℕ) → IsRestartable most job
     → IsUnanswered terms (turns_of moves) job n → IsUnanswered terms (turns_of (moves ++ more)) job n
+
+-- all that was sent is told
+abbrev pub IsAllTold : Terms → Turns → Type 0
+IsAllTold terms turns = (n : List ℕ) → was_sent turns n ≡ true → IsSome (told terms turns n)
+
+-- where no job waits and all that was sent is told, each job is finished: none is unanswered
+abbrev pub AllToldFinishes : Type 0
+AllToldFinishes =
+    (terms : Terms) (jobs : List Job) (turns : Turns) → some_wait terms jobs turns ≡ false → IsAllTold terms turns
+    → All (IsFinished terms turns) jobs
 
 -- a job costs at most one run more than the names that it asked before the first one that it lacks
 abbrev pub RunBound : Type 0

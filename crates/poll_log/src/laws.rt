@@ -1,6 +1,7 @@
 // The laws over the definitions of a log, each once.
 ghost use Rattle.poll_log.specs.Laws.{
   AgeIsSinceBirth,
+  AllToldFinishes,
   BeatBound,
   DeadStays,
   FinishedStays,
@@ -51,6 +52,11 @@ pub fn unanswered_stays()
 /// A run that asks its names in their order is restartable.
 pub fn runs_are_restartable()
     ensures { RunsAreRestartable }
+{}
+
+/// Where no job waits and all that was sent is told, no job is unanswered.
+pub fn all_told_finishes()
+    ensures { AllToldFinishes }
 {}
 
 /// A job costs at most one run more than the names that it asked.

@@ -14,8 +14,9 @@ mod terms;
 
 pub use flight::Flight;
 pub use laws::{
-    age_is_since_birth, beat_bound, dead_stays, finished_stays, questions_are_read, run_bound,
-    runs_are_restartable, sent_as_due, told_grows, told_was_sent, unanswered_stays,
+    age_is_since_birth, all_told_finishes, beat_bound, dead_stays, finished_stays,
+    questions_are_read, run_bound, runs_are_restartable, sent_as_due, told_grows, told_was_sent,
+    unanswered_stays,
 };
 pub use question::Question;
 pub use terms::{FLOOD, Terms};
