@@ -1,5 +1,5 @@
 -- One name: what is told of it and what it is owed, from event to event.
-use Rattle.std.proofs.Common.{◌≡◌, ℕ, ◌+◌, ◌-◌, ◌<◌, ◌≤◌, ◌%◌, Bool, true, false, cond, ◌||◌, ◌&&◌, not, List, [], ◌∷◌, ◌++◌, map, Option, Some, None, is_none, refl, sym, ◌∙◌, ap, subst, arith, nat_lt, nat_le, ◌==◌}
+use Rattle.std.proofs.Common.{◌≡◌, ℕ, ◌+◌, ◌-◌, ◌<◌, ◌%◌, Bool, true, false, cond, ◌||◌, ◌&&◌, not, List, [], ◌∷◌, ◌++◌, map, Option, Some, None, is_none, refl, sym, ◌∙◌, ap, subst, arith, nat_lt, nat_le, ◌==◌}
 use Rattle.std.specs.List.{cons_option, filter}
 use Rattle.std.proofs.lemmas.Bool.Decides.{nat_tests}
 use Rattle.std.proofs.lemmas.List.{append-nil}
@@ -9,9 +9,8 @@ use Rattle.pac_names.specs.declared.answer.Answer.{Answer}
 use Rattle.dns_message.specs.Reply.{reply_of}
 use Rattle.poll_log.specs.declared.question.Question.{Question}
 use Rattle.poll_log.specs.declared.terms.Terms.{Terms}
-use Rattle.poll_log.specs.declared.terms.TheConstants.{FLOOD}
 use Rattle.poll_log.specs.Turns.{Turns, Then, Event, Given, Tick}
-use Rattle.poll_log.specs.Beats.{is_beat, last_stretch}
+use Rattle.poll_log.specs.Beats.{is_beat}
 use Rattle.poll_log.specs.Questions.{IsQuestion, asked_in, octets_of, firsts, questions, names_of, new_among, has_name, number_in}
 use Rattle.poll_log.specs.Told.{Map, accepted, accepted_in, age, limit, or_else, reply_to, told}
 use Rattle.poll_log.specs.Moment.{flies, flight_at, flights_in, is_sent_again, older}
@@ -19,7 +18,6 @@ use Rattle.poll_log.specs.Jobs.{IsOwed, SendsOwed, once, wanted}
 use Rattle.poll_log.specs.Laws.{lacking_or}
 use Rattle.poll_log.proofs.Names.{cons_parts, once-none, once-seen, same_itself}
 use Rattle.poll_log.proofs.Asking.{firsts_named}
-use Rattle.poll_log.proofs.BeatLaws.{given_is_beat, last_stretch-given, last_stretch-tick, tick_is_beat}
 use Rattle.poll_log.proofs.Counts.{filter_alike}
 use Rattle.poll_log.proofs.Dues.{firsts_next, firsts_proper, new_now, owed_then}
 use Rattle.poll_log.proofs.TurnLaws.{distinct, falls_due, told_next}
@@ -29,7 +27,7 @@ use Rattle.stub_poller.specs.Driven.{asking_all, beaten_if, driven, receiving}
 use Rattle.stub_poller.proofs.Showing.{flights_cons, flights_nil, given_shows, older_age, resent_shows, told_by}
 use Rattle.stub_poller.proofs.Driving.{driven_shows, driven_terms}
 use Rattle.pac_ask.specs.Task.{job_of}
-use Rattle.pac_ask.specs.OneName.{found_or, since_after}
+use Rattle.pac_ask.specs.OneName.{found_or}
 
 names_none : (qs : List Question) → names_of qs ≡ [] → qs ≡ []
 names_none [] e = refl
@@ -164,26 +162,3 @@ module _ (t : Terms) (name : List ℕ) (w : 0 < t.wait) (r : 0 < t.tries) (h : T
     pub flying_on : beaten_if (is_beat h e) (receiving e (driven t h)) ≡ driven t (Then h e now)
     unfolding driven
     flying_on = ap (λ qs. beaten_if (is_beat h e) (asking_all qs (receiving e (driven t h)))) (sym none_drawn)
-
--- how the datagrams are counted
-flood_test : (l n : ℕ) → n ≡ l % 4096 → not (nat_lt n 4095) ≡ (l % 4096 + 1 == 4096)
-flood_test l n e = grind (arith, nat_tests)
-
-flood_count : (l n : ℕ) → n ≡ l % 4096 → cond (nat_lt n 4095) (n + 1) 0 ≡ (l + 1) % 4096
-flood_count l n e = go (nat_lt n 4095) refl
-  where
-    go : (b : Bool) → nat_lt n 4095 ≡ b → cond b (n + 1) 0 ≡ (l + 1) % 4096
-    go true k = let low : n < 4095 = grind (arith, nat_tests) in omega arith
-    go false k = let high : 4095 ≤ n = grind (arith, nat_tests) in omega arith
-
-abbrev pub beats_here : Event → ℕ → Bool
-beats_here (Given d) n = not (nat_lt n (FLOOD - 1))
-beats_here Tick n = true
-
-pub beat_is : (h : Turns) (e : Event) (n : ℕ) → n ≡ last_stretch h % FLOOD → beats_here e n ≡ is_beat h e
-beat_is h (Given d) n s = flood_test (last_stretch h) n s ∙ sym (given_is_beat h d)
-beat_is h Tick n s = sym (tick_is_beat h)
-
-pub since_is : (h : Turns) (e : Event) (n : ℕ) (sent : List (List ℕ)) → n ≡ last_stretch h % FLOOD → since_after e n ≡ last_stretch (Then h e sent) % FLOOD
-since_is h (Given d) n sent s = flood_count (last_stretch h) n s ∙ ap (λ x. x % 4096) (sym (last_stretch-given h d sent))
-since_is h Tick n sent s = ap (λ x. x % 4096) (sym (last_stretch-tick h sent))

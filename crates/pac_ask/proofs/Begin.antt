@@ -47,7 +47,7 @@ stands_begin t q w p =
       sends = owed_begin t (job_of q.name ∷ []) w.waits w.tried (q ∷ []) asks (All-cons IsQuestion q [] p (All-nil IsQuestion));
       flying = ap (λ qs. asking_all qs (new_stub t)) (sym (first_alone q p));
       answered = sym (told-begin t (octets_of q ∷ []) q.name);
-      since = refl;
+      beating = refl;
     }
   where
     asks : names_of (q ∷ []) ≡ once [] (wanted (job_of q.name ∷ []) (told t (Begin (map octets_of (q ∷ [])))))

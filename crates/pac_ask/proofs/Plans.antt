@@ -1,7 +1,8 @@
 -- How the plan of `ask` is followed.
-use Rattle.std.proofs.Common.{◌≡◌, ℕ, List, [], ◌∷◌, Option, Some, None, refl, sym, ◌∙◌, ap, arith}
+use Rattle.std.proofs.Common.{◌≡◌, ℕ, List, [], ◌∷◌, Option, Some, None, inl, refl, sym, ◌∙◌, ap, arith}
 use Rattle.pac_names.specs.declared.answer.Answer.{Answer}
-use Rattle.pac_names.specs.Names.{lookup_name_of}
+use Rattle.std.specs.Prelude.{IsTrue}
+use Rattle.pac_names.specs.Names.{is_lookup_name, lookup_name_of}
 use Rattle.pac_names.specs.Quads.{quad_of}
 use Rattle.pac_ports.specs.Dice.{DiceTold, Gave}
 use Rattle.poll_log.specs.declared.terms.Terms.{Terms}
@@ -10,16 +11,18 @@ use Rattle.poll_log.specs.Questions.{firsts, new_among}
 use Rattle.poll_log.specs.Told.{told}
 use Rattle.poll_log.specs.Jobs.{Job}
 use Rattle.stub_poller.specs.State.{StubState}
+use Rattle.stub_poller.specs.Ready.{AreTerms}
 use Rattle.pac_plan.specs.Plan.{Outside, unfinished}
 use Rattle.pac_plan.specs.Follows.{Follows}
-use Rattle.poll_loop.specs.Task.{Task}
+use Rattle.poll_loop.specs.Task.{IsSound, Task}
 use Rattle.poll_loop.specs.declared.looping.Asking.{Asking}
-use Rattle.poll_loop.proofs.Kept.{not_begun}
+use Rattle.poll_loop.proofs.Kept.{few_none, not_begun}
 use Rattle.poll_loop.proofs.Owing.{cut_begin}
 use Rattle.pac_ask.specs.Ask.{address_plan, ask_plan, name_plan, told_output}
 use Rattle.pac_ask.specs.Task.{task_of, talk_of}
 use Rattle.pac_ask.specs.Standing.{Stands}
 use Rattle.pac_ask.specs.Talks.{talks}
+use Rattle.pac_ask.proofs.Begin.{sound}
 
 -- memory may run out before anything is done
 pub memory_first : (asking : Asking) (text : List ℕ) (o : Outside) → Follows talks (ask_plan asking text) o o None
@@ -34,23 +37,25 @@ memory_first asking text o = by_quad (quad_of text)
     by_quad (Some address) = (refl, tt)
 
 -- memory ran out when a number had been drawn
-pub memory_drawn : (asking : Asking) (name : List ℕ) (o : Outside) (id : ℕ) (dice : Option DiceTold) → Gave o.dice id dice → Follows talks (name_plan asking (Some name)) o (record o { dice = dice }) None
+pub memory_drawn : (asking : Asking) (name : List ℕ) → AreTerms asking.terms → IsTrue (is_lookup_name name) → (o : Outside) (id : ℕ) (dice : Option DiceTold) → Gave o.dice id dice → Follows talks (name_plan asking (Some name)) o (record o { dice = dice }) None
 unfolding firsts new_among with_moves
-memory_drawn asking name o id dice g = (
-  unfinished,
-  [],
-  record {
-    files = refl;
-    clock = refl;
-    ends = record {
-      cut = λ sound. cut_begin asking.terms (task_of asking.terms name).jobs sound.terms.waits sound.terms.tried sound.named;
-      link = refl;
-      drew = (id ∷ [], (dice, g, refl));
-      ran = omega arith;
-    };
-  },
-  refl,
-)
+memory_drawn asking name terms named o id dice g =
+    let is_sound : IsSound (task_of asking.terms name) = sound asking.terms name terms named in (
+      unfinished,
+      [],
+      record {
+        files = refl;
+        clock = refl;
+        few = few_none asking.terms;
+        ends = inl (record {
+          cut = cut_begin asking.terms (task_of asking.terms name).jobs terms.waits terms.tried is_sound.named;
+          link = refl;
+          drew = (id ∷ [], (dice, g, refl));
+          ran = omega arith;
+        });
+      },
+      refl,
+    )
 
 -- what a job lacks where nothing is told
 first_lack : List Job → Option (List ℕ)

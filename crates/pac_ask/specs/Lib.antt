@@ -3,3 +3,4 @@ pub mod Standing
 pub mod OneName
 pub mod Talks
 pub mod Ask
+pub mod Laws

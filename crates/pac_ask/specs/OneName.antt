@@ -1,7 +1,6 @@
 -- One name, as contracts see it.
-use Rattle.std.specs.Prelude.{ℕ, ◌+◌, ◌-◌, Bool, true, nat_lt, not, if◌then◌else◌, List, Option, Some, None}
+use Rattle.std.specs.Prelude.{ℕ, List, Option, Some, None}
 use Rattle.pac_names.specs.declared.answer.Answer.{Answer}
-use Rattle.poll_log.specs.declared.terms.TheConstants.{FLOOD}
 use Rattle.poll_log.specs.declared.question.Question.{Question}
 use Rattle.poll_log.specs.declared.terms.Terms.{Terms}
 use Rattle.poll_log.specs.Turns.{Turns, Event, Given, Tick}
@@ -11,11 +10,11 @@ use Rattle.pac_ask.specs.Standing.{Stands}
 use Rattle.pac_ask.specs.declared.one_name.OneName.{OneName}
 
 abbrev pub StandsFor : OneName → Task → Turns → Type 0
-StandsFor one task turns = Stands one.name one.answer one.terms one.stub one.datagrams task turns
+StandsFor one task turns = Stands one.name one.answer one.terms one.stub one.beats task turns
 
 -- it waits for the name of this question, which is in flight
 abbrev pub new_one : Terms → Question → OneName
-new_one terms question = record { name = question.name; answer = None; terms = terms; stub = asking question (new_stub terms); datagrams = 0 }
+new_one terms question = record { name = question.name; answer = None; terms = terms; stub = asking question (new_stub terms); beats = 0 }
 
 -- the answer found, or else what was there
 abbrev pub found_or : Option (List ℕ × Answer) → Option Answer → Option Answer
@@ -30,17 +29,3 @@ received datagram one = record one { stub = given datagram one.stub; answer = fo
 abbrev pub hearing : Event → OneName → OneName
 hearing (Given datagram) one = received datagram one
 hearing Tick one = one
-
--- the datagrams after an event, where so many came since the last beat; none after a beat
-abbrev pub since_after : Event → ℕ → ℕ
-since_after (Given datagram) n = if nat_lt n (FLOOD - 1) then n + 1 else 0
-since_after Tick n = 0
-
--- whether the event is a beat
-abbrev pub beats_after : Event → OneName → Bool
-beats_after (Given datagram) one = not (nat_lt one.datagrams (FLOOD - 1))
-beats_after Tick one = true
-
--- an event was counted
-abbrev pub counted : Event → OneName → OneName
-counted event one = record one { datagrams = since_after event one.datagrams }

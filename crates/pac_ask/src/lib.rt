@@ -4,6 +4,8 @@
 #![tactic(auto)]
 
 mod asking;
+mod laws;
 mod one_name;
 
 pub use asking::ask;
+pub use laws::{asks_are_sound, told_is_answered};

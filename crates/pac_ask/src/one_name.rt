@@ -1,15 +1,16 @@
 // One name that is waited for.
-ghost use Rattle.std.specs.Prelude.{◌≡◌, IfOk, OnOk};
+ghost use Rattle.std.specs.Prelude.{◌≡◌, IfOk, IsTrue, OnErr, OnOk};
+ghost use Rattle.pac_names.specs.Names.{is_lookup_name};
 ghost use Rattle.poll_log.specs.Questions.{IsQuestion};
 ghost use Rattle.poll_loop.specs.Events.{event_of};
 ghost use Rattle.stub_poller.specs.State.{beaten, resent};
 ghost use Rattle.stub_poller.specs.Ready.{AreTerms};
-ghost use Rattle.pac_ask.specs.OneName.{beats_after, counted, hearing, new_one, received};
+ghost use Rattle.pac_ask.specs.OneName.{hearing, new_one, received};
 
 use pac_names::{Answer, LookupName};
 use pac_ports::Dice;
-use poll_log::{FLOOD, Question, Terms};
-use poll_loop::{Event, Poller};
+use poll_log::{Question, Terms};
+use poll_loop::{BeatCounter, Event, Poller};
 use std::alloc::Global;
 use std::sync::ledger::Ledger;
 use step_counter::Steps;
@@ -23,8 +24,7 @@ pub(crate) struct OneName {
     pub(crate) answer: Option<Answer>,
     terms: Terms,
     stub: Stub,
-    // since the last tick or the last beat
-    datagrams: u64,
+    beats: BeatCounter,
 }
 
 impl OneName {
@@ -39,15 +39,17 @@ impl OneName {
         ensures one { IfOk result (λ begun. begun.0 ≡ new_one terms (record { id = id; name = name })) }
         ensures question { IfOk result (λ begun. begun.1 ≡ record { id = id; name = name }) }
         ensures proper { IfOk result (λ begun. IsQuestion begun.1) }
+        ensures named { OnErr result (IsTrue (is_lookup_name name)) }
     {
         let mut stub = Stub::new(alloc, terms.wait, terms.tries);
+        let beats = BeatCounter::new();
         let question = stub.ask(alloc, name.copy(), id)?;
         let one = OneName {
             name,
             answer: None,
             terms,
             stub,
-            datagrams: 0,
+            beats,
         };
         Ok((one, question))
     }
@@ -68,23 +70,6 @@ impl OneName {
         match event {
             Event::Datagram(datagram) => self.receive(datagram),
             Event::Tick => {}
-        }
-    }
-
-    // Whether the event is a beat.
-    fn counts_beat(&mut self, event: Event<'_>) -> bool
-        ensures beat { result ≡ beats_after (event_of event.entry) self.old }
-        ensures counted { self.new ≡ counted (event_of event.entry) self.old }
-    {
-        match event {
-            Event::Datagram(_) if self.datagrams < FLOOD - 1 => {
-                self.datagrams += 1;
-                false
-            }
-            _ => {
-                self.datagrams = 0;
-                true
-            }
         }
     }
 
@@ -128,7 +113,7 @@ impl Poller for OneName {
         _runs: &mut Steps<L>,
     ) -> Result<Vec<Question>, Memory> {
         self.hear(event);
-        if !self.counts_beat(event) {
+        if !self.beats.count(event) {
             return Ok(Vec::new(alloc));
         }
         let again = self.beat(alloc)?;

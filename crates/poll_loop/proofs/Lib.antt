@@ -1,3 +1,4 @@
+pub mod Counting
 pub mod Logs
 pub mod Owing
 pub mod Waiting

@@ -1,21 +1,20 @@
 -- From one turn to the next.
-use Rattle.std.proofs.Common.{◌≡◌, ℕ, ◌+◌, ◌*◌, ◌<◌, ◌≤◌, Bool, true, false, not, ◌||◌, List, [], ◌∷◌, ◌++◌, map, take, drop, length, Option, Some, None, Err, refl, sym, ◌∙◌, ap, subst, arith}
+use Rattle.std.proofs.Common.{◌≡◌, inl, ℕ, ◌+◌, ◌<◌, ◌≤◌, Bool, true, false, not, ◌||◌, List, [], ◌∷◌, ◌++◌, map, take, drop, length, Option, Some, None, Err, refl, sym, ◌∙◌, ap, subst, arith}
 use Rattle.std.specs.List.{list_any}
 use Rattle.std.proofs.lemmas.List.{take-append-drop, length-append}
 use Rattle.pac_ports.specs.Dice.{DiceTold}
 use Rattle.pac_ports.specs.Link.{LinkFails, LinkState, has_move, with_moves as adding, with_open}
 use Rattle.pac_ports.specs.declared.link.Move.{Move}
 use Rattle.pac_ports.specs.declared.link.Move.TheVariants as move
-use Rattle.poll_log.specs.declared.terms.TheConstants.{FLOOD}
 use Rattle.poll_log.specs.Turns.{Turns, Begin, Then, Event, turns_of, with_moves, with_sent}
 use Rattle.poll_log.specs.declared.terms.Terms.{Terms}
 use Rattle.poll_log.specs.declared.question.Question.{Question}
 use Rattle.poll_log.specs.Beats.{events}
 use Rattle.poll_log.specs.Questions.{drawn, names_of, octets_of}
-use Rattle.poll_log.specs.Told.{limit, told}
+use Rattle.poll_log.specs.Told.{told}
 use Rattle.poll_log.specs.Jobs.{IsCut, Job, SendsOwed, WaitsBefore, some_wait, once, wanted}
 use Rattle.poll_log.proofs.BeatLaws.{events-begin, events-then}
-use Rattle.poll_log.proofs.Bounds.{bounded}
+use Rattle.poll_log.proofs.Bounds.{bounded, cut_few}
 use Rattle.poll_log.proofs.Names.{once-cons, true_false}
 use Rattle.pac_plan.specs.Plan.{Outside, whole, faulted, unfinished}
 use Rattle.poll_loop.specs.Events.{move_of}
@@ -23,11 +22,12 @@ use Rattle.poll_loop.specs.Task.{IsSound, Talk}
 use Rattle.poll_loop.specs.Numbers.{GaveAll, newly_drawn}
 use Rattle.poll_loop.specs.Sending.{SendFails}
 use Rattle.poll_loop.specs.Steps.{Began, Stepped, StepFails}
-use Rattle.poll_loop.specs.Talks.{Talked}
+use Rattle.poll_loop.specs.Talks.{Talked, most_events}
 use Rattle.poll_loop.specs.Turning.{Polled, Reached, Turned}
 use Rattle.poll_loop.specs.declared.looping.Stop.{Stop}
 use Rattle.poll_loop.specs.declared.looping.Stop.TheVariants as stop
 use Rattle.poll_loop.proofs.Logs.{added_more, drawn-then, gave-append, linked_by, nothing_drawn, sent_none, turns_begin, turns_more}
+use Rattle.poll_loop.proofs.Kept.{few_none}
 use Rattle.poll_loop.proofs.Owing.{cut_then}
 use Rattle.std.specs.List.{cons_option}
 use Rattle.poll_log.specs.Told.{is_dead}
@@ -50,15 +50,17 @@ still_unsure a b f u =
 -- a log that a fault cut short
 faulted_by : (talk : Talk) (old : Outside) (link : LinkState) (dice : Option DiceTold) (runs : ℕ) (sound : IsSound talk.task) (log : List Move) (h : Turns) → turns_of log ≡ h → (unsent : List (List ℕ)) → SendsOwed talk.task.terms talk.task.jobs (with_sent h unsent) → WaitsBefore talk.task.terms talk.task.jobs h → some_wait talk.task.terms talk.task.jobs h ≡ true → LinkFails (adding log (with_open talk.server old.link)) link → has_move link ≡ false → GaveAll old.dice (drawn (with_sent h unsent)) dice → runs ≡ old.runs + talk.task.runs (with_sent h unsent) → Talked talk old faulted log (with_all old link dice runs)
 faulted_by talk old link dice runs sound log h e unsent owed before waits l u drew ran =
+    let cut : IsCut talk.task.terms talk.task.jobs (turns_of log) = record {
+      unsent = unsent;
+      sends = subst (λ x. SendsOwed talk.task.terms talk.task.jobs (with_sent x unsent)) (sym e) owed;
+      waits = subst (WaitsBefore talk.task.terms talk.task.jobs) (sym e) before;
+    } in
     record {
       files = refl;
       clock = refl;
+      few = cut_few MOST_NAMES talk.task.terms talk.task.jobs (turns_of log) sound.restartable cut;
       ends = record {
-        cut = record {
-          unsent = unsent;
-          sends = subst (λ x. SendsOwed talk.task.terms talk.task.jobs (with_sent x unsent)) (sym e) owed;
-          waits = subst (WaitsBefore talk.task.terms talk.task.jobs) (sym e) before;
-        };
+        cut = cut;
         waits = ap (some_wait talk.task.terms talk.task.jobs) e ∙ waits;
         link = l;
         unsure = u;
@@ -128,6 +130,7 @@ module _ (talk : Talk) (Stands : Turns → Type 0) (old : Outside) (sent : List 
     record {
       files = refl;
       clock = refl;
+      few = few_none talk.task.terms;
       ends = record {
         polled = record { sends = subst (λ x. SendsOwed talk.task.terms talk.task.jobs (Begin x)) e b.owed; waits = tt; ended = none_wait talk.task.terms talk.task.jobs (subst (λ x. SendsOwed talk.task.terms talk.task.jobs (Begin x)) e b.owed) };
         link = l;
@@ -210,12 +213,13 @@ module _ (talk : Talk) (Stands : Turns → Type 0) (old : Outside) (link : LinkS
         record {
           files = refl;
           clock = refl;
-          ends = record {
-            cut = λ sound. subst (IsCut talk.task.terms talk.task.jobs) (sym f) (cut_then talk.task.terms talk.task.jobs sound.terms.waits sound.terms.tried sound.named h e r.sends (r.waits, w));
+          few = (let low = (bounded MOST_NAMES talk.task.terms talk.task.jobs h r.sound.restartable r.sends r.waits).waiting w in (let n = ap events f ∙ events-then h e [] in omega arith));
+          ends = inl (record {
+            cut = subst (IsCut talk.task.terms talk.task.jobs) (sym f) (cut_then talk.task.terms talk.task.jobs r.sound.terms.waits r.sound.terms.tried r.sound.named h e r.sends (r.waits, w));
             link = l ∙ link_more (move_of e ∷ []) ∙ linked_by talk.server (r.moves ++ move_of e ∷ []) old.link (let a = length-append r.moves (move_of e ∷ []) in (let b = r.begun in omega arith));
             drew = (s.drew.0, subst (λ x. GaveAll old.dice (drawn x ++ s.drew.0) dice') (sym f) (subst (λ d. GaveAll old.dice (d ++ s.drew.0) dice') (sym (nothing_drawn h e)) (gave-append (drawn h) s.drew.0 old.dice dice dice' r.drew s.drew.1)));
             ran = subst (λ x. runs' ≤ old.runs + talk.task.runs x) (sym f) (let a = r.ran in (let b = s.ran in omega arith));
-          };
+          });
         },
       )
 
@@ -226,6 +230,7 @@ module _ (talk : Talk) (Stands : Turns → Type 0) (old : Outside) (link : LinkS
     record {
       files = refl;
       clock = refl;
+      few = (bounded MOST_NAMES talk.task.terms talk.task.jobs (turns_of r.moves) r.sound.restartable r.sends r.waits).few_events;
       ends = record {
         polled = record { sends = r.sends; waits = r.waits; ended = w };
         link = r.link_now ∙ linked_by talk.server r.moves old.link r.begun;
@@ -237,7 +242,7 @@ module _ (talk : Talk) (Stands : Turns → Type 0) (old : Outside) (link : LinkS
   )
 
   -- after so many events nobody waits
-  pub ended_by_bound : FLOOD * (MOST_NAMES * limit talk.task.terms) ≤ count → (log : List Move) × Talked talk old whole log (with_all old link dice runs) × Stands (turns_of log)
+  pub ended_by_bound : most_events talk.task.terms ≤ count → (log : List Move) × Talked talk old whole log (with_all old link dice runs) × Stands (turns_of log)
   ended_by_bound high = ended_whole (go (some_wait talk.task.terms talk.task.jobs (turns_of r.moves)) refl)
     where
       go : (b : Bool) → some_wait talk.task.terms talk.task.jobs (turns_of r.moves) ≡ b → b ≡ false

@@ -1,7 +1,9 @@
 pub mod Events
+pub mod Counting
 pub mod Task
 pub mod Numbers
 pub mod Talks
 pub mod Steps
 pub mod Sending
 pub mod Turning
+pub mod Laws

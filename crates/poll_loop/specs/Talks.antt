@@ -1,13 +1,18 @@
 -- What a talk does to the outside: its log is polled, or cut short at a fault or for want of memory.
-use Rattle.std.specs.Prelude.{◌≡◌, ℕ, ◌+◌, ◌≤◌, true, false, List, [], ◌∷◌, ◌++◌}
+use Rattle.std.specs.Prelude.{◌≡◌, ◌⊎◌, ℕ, ◌+◌, ◌*◌, ◌≤◌, true, false, List, [], ◌∷◌, ◌++◌}
+use Rattle.pac_names.specs.declared.limits.TheConstants.{MOST_NAMES}
 use Rattle.pac_ports.specs.Link.{LinkState, LinkFails, has_move, with_moves, with_open}
 use Rattle.pac_ports.specs.declared.link.Move.{Move}
 use Rattle.pac_ports.specs.declared.link.Server.{Server}
+use Rattle.poll_log.specs.declared.terms.TheConstants.{FLOOD}
+use Rattle.poll_log.specs.declared.terms.Terms.{Terms}
 use Rattle.poll_log.specs.Turns.{turns_of, with_sent}
+use Rattle.poll_log.specs.Beats.{events}
 use Rattle.poll_log.specs.Questions.{drawn}
+use Rattle.poll_log.specs.Told.{limit}
 use Rattle.poll_log.specs.Jobs.{IsCut, IsPolled, some_wait}
 use Rattle.pac_plan.specs.Plan.{End, Outside, whole, faulted, unfinished}
-use Rattle.poll_loop.specs.Task.{IsSound, Talk}
+use Rattle.poll_loop.specs.Task.{Talk}
 use Rattle.poll_loop.specs.Numbers.{GaveAll}
 
 -- The link after these moves: opened once, to the server, before the first. Without moves it is as it was.
@@ -34,19 +39,29 @@ pub record EndsByFault (talk : Talk) (old : Outside) (log : List Move) (new : Ou
 
 -- Memory ran out.
 pub record EndsForMemory (talk : Talk) (old : Outside) (log : List Move) (new : Outside) : Type 0 where
-  pub cut : IsSound talk.task → IsCut talk.task.terms talk.task.jobs (turns_of log)
+  pub cut : IsCut talk.task.terms talk.task.jobs (turns_of log)
   pub link : new.link ≡ linked talk.server log old.link
   -- numbers may have been drawn for names that were not sent
   pub drew : (more : List ℕ) × GaveAll old.dice (drawn (turns_of log) ++ more) new.dice
   pub ran : new.runs ≤ old.runs + talk.task.runs (turns_of log)
 
+-- it ran out before anything was done
+pub record EndsUnbegun (old : Outside) (log : List Move) (new : Outside) : Type 0 where
+  pub empty : log ≡ []
+  pub same : new ≡ old
+
 abbrev pub Ends : Talk → Outside → End → List Move → Outside → Type 0
 Ends talk old whole log new = EndsWhole talk old log new
 Ends talk old faulted log new = EndsByFault talk old log new
-Ends talk old unfinished log new = EndsForMemory talk old log new
+Ends talk old unfinished log new = EndsForMemory talk old log new ⊎ EndsUnbegun old log new
 
--- files and clock are as they were
+-- no talk has more events than these: 4,096 for each of the beats of 32 names, one after another
+abbrev pub most_events : Terms → ℕ
+most_events terms = FLOOD * (MOST_NAMES * limit terms)
+
+-- however it ends
 pub record Talked (talk : Talk) (old : Outside) (end : End) (log : List Move) (new : Outside) : Type 0 where
   pub files : new.files ≡ old.files
   pub clock : new.clock ≡ old.clock
+  pub few : events (turns_of log) ≤ most_events talk.task.terms
   pub ends : Ends talk old end log new

@@ -1,5 +1,5 @@
 -- What has begun stands for the log of the first sends, and what is said of sessions is what the log says.
-use Rattle.std.proofs.Common.{Bool, ◌≡◌, ℕ, zero, suc, ◌+◌, ◌%◌, ◌<◌, false, List, [], ◌∷◌, get_or, length, map, Option, Some, None, refl, sym, ◌∙◌, ap, subst, arith, ◌≤◌}
+use Rattle.std.proofs.Common.{Bool, ◌≡◌, ℕ, zero, suc, ◌+◌, ◌<◌, false, List, [], ◌∷◌, get_or, length, map, Option, Some, None, inl, refl, sym, ◌∙◌, ap, subst, arith, ◌≤◌}
 use Rattle.std.specs.Prelude.{IfSome}
 use Rattle.std.specs.FinMap as finite
 use Rattle.std.specs.Ordering.{nat_cmp}
@@ -14,7 +14,6 @@ use Rattle.pac_plan.specs.Plan.{Outside, unfinished}
 use Rattle.pac_ports.specs.Dice.{DiceTold}
 use Rattle.poll_log.specs.declared.question.Question.{Question}
 use Rattle.poll_log.specs.declared.terms.Terms.{Terms}
-use Rattle.poll_log.specs.declared.terms.TheConstants.{FLOOD}
 use Rattle.poll_log.specs.Turns.{Turns, Begin, with_moves}
 use Rattle.poll_log.specs.Beats.{last_stretch, stretches}
 use Rattle.poll_log.specs.Questions.{asked_in, firsts, names_of, new_among, octets_of}
@@ -28,6 +27,7 @@ use Rattle.poll_log.proofs.TurnLaws.{firsts-begin, told-begin}
 use Rattle.stub_poller.specs.State.{StubState, new_stub}
 use Rattle.stub_poller.specs.Ready.{AreTerms}
 use Rattle.stub_poller.specs.Driven.{asking_all, driven}
+use Rattle.poll_loop.specs.Counting.{HasCounted}
 use Rattle.poll_loop.specs.Numbers.{GaveAll}
 use Rattle.poll_loop.specs.Steps.{Began}
 use Rattle.poll_loop.specs.Task.{AsksLookupNames, Task}
@@ -48,6 +48,7 @@ use Rattle.session_core.specs.Resolved.{AllEnded, HasEnded, talk_of}
 use Rattle.session_core.proofs.Drawing.{GaveSome}
 use Rattle.poll_loop.specs.declared.looping.Asking.{Asking}
 use Rattle.poll_loop.specs.Talks.{Talked}
+use Rattle.poll_loop.proofs.Kept.{few_none}
 use Rattle.poll_loop.proofs.Owing.{cut_begin}
 use Rattle.session_core.proofs.Knowing.{dead_still}
 use Rattle.session_core.proofs.Turning.{dead_is, waits_is}
@@ -62,7 +63,7 @@ module _ {R Out End : Type 0} (gives : Out → End → List (List ℕ) → Type 
   jobs_run [] = refl
   jobs_run (s ∷ sessions) = ap (λ l. job_of (tree s.run) ∷ l) (jobs_run sessions)
 
-  all_named : ((run : R) → AsksLookupNames (job_of (tree run))) → (all : List R) → All AsksLookupNames (run_jobs tree all)
+  pub all_named : ((run : R) → AsksLookupNames (job_of (tree run))) → (all : List R) → All AsksLookupNames (run_jobs tree all)
   all_named named [] = All-nil AsksLookupNames
   all_named named (run ∷ all) = All-cons AsksLookupNames (job_of (tree run)) (run_jobs tree all) (named run) (all_named named all)
 
@@ -114,9 +115,9 @@ module _ {R Out End : Type 0} (gives : Out → End → List (List ℕ) → Type 
         subst (λ dead. IsPlaced gives (tree (get_or sessions k d).run) (finite.get table) dead (get_or sessions k d).state)
         (sym (ap dead_of b.stub_is ∙ fun_ext (dead_still asked new))) (b.placed k d low)
 
-    since : 0 ≡ last_stretch (Begin sent) % FLOOD
+    beating : HasCounted 0 (Begin sent)
     unfolding last_stretch stretches
-    since = refl
+    beating = refl
 
     stands : Stands gives tree sessions table stub 0 (task_of t jobs) (Begin sent)
     stands =
@@ -129,11 +130,11 @@ module _ {R Out End : Type 0} (gives : Out → End → List (List ℕ) → Type 
           told_is = λ n. ap (λ M. M n) nothing ∙ ap (λ x. told x (Begin sent) n) (sym stub_terms);
           placed = placed;
           counted = subst (λ x. All (λ s. s.runs ≡ runs_of x (Begin sent) (job_of (tree s.run))) sessions) (sym stub_terms) counted;
-          since = since;
+          beating = beating;
         }
 
-    pub began : ((run : R) → AsksLookupNames (job_of (tree run))) → (runs runs' : ℕ) → runs' ≡ runs + length all → (old : Outside) → old.dice ≡ dice → old.runs ≡ runs → Began (StandsFor gives tree sessions table stub 0 false (task_of t jobs)) (task_of t jobs) sent old dice' runs'
-    began named runs runs' ran old d r =
+    pub began : ((run : R) → AsksLookupNames (job_of (tree run))) → (beats : ℕ) → beats ≡ 0 → (runs runs' : ℕ) → runs' ≡ runs + length all → (old : Outside) → old.dice ≡ dice → old.runs ≡ runs → Began (StandsFor gives tree sessions table stub beats false (task_of t jobs)) (task_of t jobs) sent old dice' runs'
+    began named beats none runs runs' ran old d r =
         let count : all_runs t jobs (Begin sent) ≡ length jobs = runs_begin t jobs sent in
         let many : length jobs ≡ length all = length-map all (λ run. job_of (tree run)) in
         record {
@@ -143,7 +144,7 @@ module _ {R Out End : Type 0} (gives : Out → End → List (List ℕ) → Type 
             restartable = all_restart all;
             unsent_runs = runs_with_sent t jobs;
           };
-          stands = record { whole = refl; stands = stands };
+          stands = record { whole = refl; stands = subst (λ m. Stands gives tree sessions table stub m (task_of t jobs) (Begin sent)) (sym none) stands };
           owed = owed_begin t jobs ranges.waits ranges.tried asked asks b.proper;
           drew = subst (λ x. GaveAll x (map (λ (q : Question). q.id) (firsts (Begin sent))) dice') (sym d) (subst (λ qs. GaveAll dice (numbers_of qs) dice') (sym (firsts-begin sent ∙ newly)) b.drew);
           ran = omega arith;
@@ -230,17 +231,18 @@ all_ended {R = R} {Out = Out} gives tree all sessions table stub n t jobs' h run
 
 module _ (asking : Asking) (all : List Job) (old : Outside) where
   -- memory ran out before anything was sent
-  pub not_sent : (dice : Option DiceTold) (runs : ℕ) → GaveSome old.dice dice → runs ≤ old.runs + length all → Talked (talk_of asking all) old unfinished [] (record old { dice = dice; runs = runs })
+  pub not_sent : AreTerms asking.terms → All AsksLookupNames all → (dice : Option DiceTold) (runs : ℕ) → GaveSome old.dice dice → runs ≤ old.runs + length all → Talked (talk_of asking all) old unfinished [] (record old { dice = dice; runs = runs })
   unfolding firsts new_among with_moves
-  not_sent dice runs drew low =
+  not_sent terms named dice runs drew low =
       let count : all_runs asking.terms all (Begin []) ≡ length all = runs_begin asking.terms all [] in
       record {
         files = refl;
         clock = refl;
-        ends = record {
-          cut = λ sound. cut_begin asking.terms all sound.terms.waits sound.terms.tried sound.named;
+        few = few_none asking.terms;
+        ends = inl (record {
+          cut = cut_begin asking.terms all terms.waits terms.tried named;
           link = refl;
           drew = drew;
           ran = omega arith;
-        };
+        });
       }

@@ -1,8 +1,7 @@
 -- One event more, and the sessions stand for the longer log.
-use Rattle.std.proofs.Common.{◌≡◌, ℕ, zero, suc, ◌+◌, ◌%◌, ◌<◌, ◌≤◌, Bool, true, false, cond, ◌||◌, ◌&&◌, not, List, [], ◌∷◌, ◌++◌, get_or, length, map, Option, Some, None, is_none, refl, sym, ◌∙◌, ap, subst, arith, nat_lt, ◌==◌}
+use Rattle.std.proofs.Common.{◌≡◌, ℕ, zero, suc, ◌+◌, ◌%◌, ◌<◌, ◌≤◌, Bool, true, false, ◌||◌, ◌&&◌, not, List, [], ◌∷◌, ◌++◌, get_or, length, map, Option, Some, None, is_none, refl, sym, ◌∙◌, ap, subst, arith, nat_lt, ◌==◌}
 use Rattle.std.specs.FinMap as finite
 use Rattle.std.specs.List.{All, filter, list_any}
-use Rattle.std.proofs.lemmas.Bool.Decides.{nat_tests}
 use Rattle.std.proofs.lemmas.List.{append-nil, length-map, take_all}
 use Rattle.std.proofs.lemmas.List.Elements.{All-append, All-filter, All-same}
 use mathlib.Core.Path.{fun_ext}
@@ -11,15 +10,13 @@ use Rattle.run_trees.specs.RunTree.{RunTree}
 use Rattle.pac_ports.specs.Dice.{DiceTold}
 use Rattle.poll_log.specs.declared.question.Question.{Question}
 use Rattle.poll_log.specs.declared.terms.Terms.{Terms}
-use Rattle.poll_log.specs.declared.terms.TheConstants.{FLOOD}
 use Rattle.poll_log.specs.Turns.{Turns, Then, Event, Given, Tick}
-use Rattle.poll_log.specs.Beats.{is_beat, last_stretch}
+use Rattle.poll_log.specs.Beats.{is_beat}
 use Rattle.poll_log.specs.Questions.{IsQuestion, asked_in, firsts, has_name, names_of, new_among, octets_of, questions}
 use Rattle.poll_log.specs.Told.{Map, age, is_dead, limit, told}
 use Rattle.poll_log.specs.Moment.{dead_in, is_sent_again, older}
 use Rattle.poll_log.specs.Jobs.{IsOwed, Job, SendsOwed, once, runs_of, some_wait, told_to, waits_unless, wanted}
 use Rattle.poll_log.proofs.Asking.{asked_in-octets}
-use Rattle.poll_log.proofs.BeatLaws.{given_is_beat, last_stretch-given, last_stretch-tick, tick_is_beat}
 use Rattle.poll_log.proofs.Bounds.{want_sent}
 use Rattle.poll_log.proofs.Counts.{filter_alike, seen_filter}
 use Rattle.poll_log.proofs.Dues.{firsts_proper, owed_then}
@@ -32,6 +29,7 @@ use Rattle.stub_poller.specs.Shows.{Shows}
 use Rattle.stub_poller.specs.Driven.{asking_all, beaten_if, driven, receiving}
 use Rattle.stub_poller.proofs.Driving.{asked_all_show, driven_shows, driven_terms}
 use Rattle.stub_poller.proofs.Showing.{older_age, resent_shows}
+use Rattle.poll_loop.specs.Counting.{HasCounted}
 use Rattle.poll_loop.specs.Numbers.{GaveAll, newly_drawn}
 use Rattle.poll_loop.specs.Steps.{StepFails, Stepped}
 use Rattle.poll_loop.specs.Task.{Task}
@@ -45,7 +43,6 @@ use Rattle.session_core.specs.declared.session.Session.{Session}
 use Rattle.session_core.specs.Sessions.{IsPlaced, buried, count_woken, dead_of, died_with, if_dead, is_waiting, is_woken, unanswered_by}
 use Rattle.session_core.specs.Settling.{numbers_of}
 use Rattle.session_core.specs.Cascade.{Cascades, Hears, IsNext, found_at, missed_names, told_name}
-use Rattle.session_core.specs.Counting.{beats_at, datagrams_after}
 use Rattle.session_core.specs.Stands.{Stands, StandsFor, jobs_of, task_of}
 use Rattle.session_core.proofs.Drawing.{GaveSome}
 use Rattle.session_core.proofs.Found.{known, receiving_shows, table_told, tells}
@@ -78,26 +75,6 @@ module _ {R Out End : Type 0} (tree : R → RunTree End) where
     all_mapped f [] keep p k d low = absurd (omega arith)
     all_mapped f (x ∷ xs) keep p zero d low = keep x (p zero x (omega arith))
     all_mapped f (x ∷ xs) keep p (suc k) d low = all_mapped f xs keep (λ j e l. p (suc j) e (omega arith)) k d (omega arith)
-
--- ---- how datagrams are counted
-
-flood_test : (l n : ℕ) → n ≡ l % 4096 → not (nat_lt n 4095) ≡ (l % 4096 + 1 == 4096)
-flood_test l n e = grind (arith, nat_tests)
-
-flood_count : (l n : ℕ) → n ≡ l % 4096 → cond (nat_lt n 4095) (n + 1) 0 ≡ (l + 1) % 4096
-flood_count l n e = go (nat_lt n 4095) refl
-  where
-    go : (b : Bool) → nat_lt n 4095 ≡ b → cond b (n + 1) 0 ≡ (l + 1) % 4096
-    go true k = let low : n < 4095 = grind (arith, nat_tests) in omega arith
-    go false k = let high : 4095 ≤ n = grind (arith, nat_tests) in omega arith
-
-pub beat_is : (h : Turns) (e : Event) (n : ℕ) → n ≡ last_stretch h % FLOOD → beats_at e n ≡ is_beat h e
-beat_is h (Given d) n s = flood_test (last_stretch h) n s ∙ sym (given_is_beat h d)
-beat_is h Tick n s = sym (tick_is_beat h)
-
-since_is : (h : Turns) (e : Event) (n : ℕ) (sent : List (List ℕ)) → n ≡ last_stretch h % FLOOD → datagrams_after e n ≡ last_stretch (Then h e sent) % FLOOD
-since_is h (Given d) n sent s = flood_count (last_stretch h) n s ∙ ap (λ x. x % 4096) (sym (last_stretch-given h d sent))
-since_is h Tick n sent s = ap (λ x. x % 4096) (sym (last_stretch-tick h sent))
 
 -- ---- deaths
 
@@ -293,7 +270,7 @@ module _ {R Out End : Type 0} (gives : Out → End → List (List ℕ) → Type 
     told_next_is : (m : Name) → finite.get table' m ≡ told t (Then h e sent) m
     told_next_is m = ap (λ M. M m) (table_next ∙ told_by_event t h e [] sent)
 
-    module _ (b : Bool) (beats : b ≡ is_beat h e) where
+    module _ (b : Bool) (beats : b ≡ is_beat h e) (n' : ℕ) (counts : HasCounted n' (Then h e sent)) where
       abbrev sessions'' : List (Session R Out)
       sessions'' = closed b (beaten mid) sessions'
 
@@ -321,7 +298,7 @@ module _ {R Out End : Type 0} (gives : Out → End → List (List ℕ) → Type 
       closed_counted false = counted_next
       closed_counted true = all_mapped tree (λ x. x.runs ≡ runs_of t (Then h e sent) (job_of (tree x.run))) (buried (beaten mid)) sessions' (λ x k. k) counted_next
 
-      stands_next : Stands gives tree sessions'' table' stub'' (datagrams_after e n) (task_of t jobs) (Then h e sent)
+      stands_next : Stands gives tree sessions'' table' stub'' n' (task_of t jobs) (Then h e sent)
       stands_next =
           let terms : stub''.terms ≡ t = closed_terms b in
           let js : jobs_of tree sessions'' ≡ jobs = closed_jobs b in
@@ -333,7 +310,7 @@ module _ {R Out End : Type 0} (gives : Out → End → List (List ℕ) → Type 
             told_is = λ m. told_next_is m ∙ ap (λ x. told x (Then h e sent) m) (sym terms);
             placed = subst (λ M. All (λ x. IsPlaced gives (tree x.run) M (dead_of stub'') x.state) sessions'') (sym table_next) (closed_placed b);
             counted = subst (λ x. All (λ y. y.runs ≡ runs_of x (Then h e sent) (job_of (tree y.run))) sessions'') (sym terms) (closed_counted b);
-            since = since_is h e n sent s.since;
+            beating = counts;
           }
 
       module _ (runs runs' : ℕ) (ran : runs' ≡ runs + count_woken word sessions) where
@@ -348,9 +325,9 @@ module _ {R Out End : Type 0} (gives : Out → End → List (List ℕ) → Type 
         drew_next = subst (λ qs. GaveAll dice (numbers_of qs) dice') (sym newly) cascade.drew
 
         -- one event was treated whole
-        pub stepped : Stepped (λ turns. Stands gives tree sessions'' table' stub'' (datagrams_after e n) task turns) task h e sent dice dice' runs runs'
+        pub stepped : Stepped (λ turns. Stands gives tree sessions'' table' stub'' n' task turns) task h e sent dice dice' runs runs'
         stepped =
-            subst (λ x. Stepped (λ turns. Stands gives tree sessions'' table' stub'' (datagrams_after e n) x turns) x h e sent dice dice' runs runs') (sym s.same)
+            subst (λ x. Stepped (λ turns. Stands gives tree sessions'' table' stub'' n' x turns) x h e sent dice dice' runs runs') (sym s.same)
             (record { stands = stands_next; owed = owed; drew = drew_next; ran = total_next })
 
 -- ---- as the code finds it
@@ -372,26 +349,24 @@ pub hears_keeps : {R Out End : Type 0} (gives : Out → End → List (List ℕ) 
 hears_keeps gives tree e table table' sessions sessions' stub mid dice dice' asked heard =
     runs_same sessions sessions' heard.cascades.long (λ k d low. (heard.cascades.next k d low).run)
 
-module _ {R Out End : Type 0} (gives : Out → End → List (List ℕ) → Type 0) (tree : R → RunTree End) (sessions sessions' : List (Session R Out)) (table table' : AnswerMap) (stub mid : StubState) (n n' : ℕ) (e : Event) (beat : Bool) (dice dice' : Option DiceTold) (runs runs' : ℕ) (asked : List Question) (tests : beat ≡ beats_at e n) (counts : n' ≡ datagrams_after e n) (heard : Hears gives tree e table table' sessions sessions' stub mid dice dice' asked) (ran : runs' ≡ runs + count_woken (told_name (found_at e stub)) sessions) where
+module _ {R Out End : Type 0} (gives : Out → End → List (List ℕ) → Type 0) (tree : R → RunTree End) (sessions sessions' : List (Session R Out)) (table table' : AnswerMap) (stub mid : StubState) (n n' : ℕ) (e : Event) (beat : Bool) (dice dice' : Option DiceTold) (runs runs' : ℕ) (asked : List Question) (tests : (turns : Turns) → HasCounted n turns → beat ≡ is_beat turns e) (counts : (turns : Turns) (sent : List (List ℕ)) → HasCounted n turns → HasCounted n' (Then turns e sent)) (heard : Hears gives tree e table table' sessions sessions' stub mid dice dice' asked) (ran : runs' ≡ runs + count_woken (told_name (found_at e stub)) sessions) where
   -- an event that is no beat
   pub stepped_none : beat ≡ false → (task : Task) (h : Turns) → Stands gives tree sessions table stub n task h → Stepped (Stands gives tree sessions' table' mid n' task) task h e (map octets_of asked) dice dice' runs runs'
   stepped_none b task h s =
-      let is : false ≡ is_beat h e = sym b ∙ tests ∙ beat_is h e n s.since in
+      let is : false ≡ is_beat h e = sym b ∙ tests h s.beating in
       let whole : asked ++ again_at (is_beat h e) mid ≡ asked = ap (λ c. asked ++ again_at c mid) (sym is) ∙ append-nil asked in
       subst (λ l. Stepped (Stands gives tree sessions' table' mid n' task) task h e (map octets_of l) dice dice' runs runs') whole
-      (subst (λ m. Stepped (Stands gives tree sessions' table' mid m task) task h e (map octets_of (asked ++ again_at (is_beat h e) mid)) dice dice' runs runs') (sym counts)
-      (stepped gives tree sessions table stub n task h s e sessions' table' mid dice dice' asked heard false is runs runs' ran))
+      (stepped gives tree sessions table stub n task h s e sessions' table' mid dice dice' asked heard false is n' (counts h (map octets_of (asked ++ again_at (is_beat h e) mid)) s.beating) runs runs' ran)
 
   -- a beat
   pub stepped_beat : beat ≡ true → (repeats sent : List Question) (last : List (Session R Out)) (stub' : StubState) → repeats ≡ resent mid → stub' ≡ beaten mid → last ≡ map (buried (beaten mid)) sessions' → sent ≡ asked ++ repeats → (task : Task) (h : Turns) → Stands gives tree sessions table stub n task h → Stepped (Stands gives tree last table' stub' n' task) task h e (map octets_of sent) dice dice' runs runs'
   stepped_beat b repeats sent last stub' a k l w task h s =
-      let is : true ≡ is_beat h e = sym b ∙ tests ∙ beat_is h e n s.since in
+      let is : true ≡ is_beat h e = sym b ∙ tests h s.beating in
       let whole : asked ++ again_at (is_beat h e) mid ≡ sent = ap (λ c. asked ++ again_at c mid) (sym is) ∙ ap (λ x. asked ++ x) (sym a) ∙ sym w in
       subst (λ x. Stepped (Stands gives tree last table' x n' task) task h e (map octets_of sent) dice dice' runs runs') (sym k)
       (subst (λ x. Stepped (Stands gives tree x table' (beaten mid) n' task) task h e (map octets_of sent) dice dice' runs runs') (sym l)
       (subst (λ x. Stepped (Stands gives tree (map (buried (beaten mid)) sessions') table' (beaten mid) n' task) task h e (map octets_of x) dice dice' runs runs') whole
-      (subst (λ m. Stepped (Stands gives tree (map (buried (beaten mid)) sessions') table' (beaten mid) m task) task h e (map octets_of (asked ++ again_at (is_beat h e) mid)) dice dice' runs runs') (sym counts)
-      (stepped gives tree sessions table stub n task h s e sessions' table' mid dice dice' asked heard true is runs runs' ran))))
+      (stepped gives tree sessions table stub n task h s e sessions' table' mid dice dice' asked heard true is n' (counts h (map octets_of (asked ++ again_at (is_beat h e) mid)) s.beating) runs runs' ran)))
 
 -- memory ran out in the midst of an event
 pub step_fails : {R Out End : Type 0} (gives : Out → End → List (List ℕ) → Type 0) (tree : R → RunTree End) (sessions : List (Session R Out)) (table : AnswerMap) (stub : StubState) (n : ℕ) (e : Event) (dice dice' : Option DiceTold) (runs runs' : ℕ) → GaveSome dice dice' → runs' ≤ runs + count_woken (told_name (found_at e stub)) sessions → (task : Task) (h : Turns) → Stands gives tree sessions table stub n task h → StepFails task h e dice dice' runs runs'

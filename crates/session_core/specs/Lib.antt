@@ -2,7 +2,6 @@ pub mod Answers
 pub mod Sessions
 pub mod Settling
 pub mod Cascade
-pub mod Counting
 pub mod Stands
 pub mod Beginning
 pub mod Ends

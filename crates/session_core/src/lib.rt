@@ -9,7 +9,6 @@
 mod beats;
 mod beginning;
 mod cascade;
-mod counting;
 mod events;
 mod poller;
 mod resolving;

@@ -9,14 +9,13 @@ ghost use Rattle.session_core.specs.Stands.{Stands};
 
 use crate::beats::take_beat;
 use crate::beginning::{Begun, begin};
-use crate::counting::counts_beat;
 use crate::events::hear;
 use crate::session::{outcome_of, some_wait, without_outcome};
 use crate::{Run, Session, SessionState};
 use answer_table::AnswerTable;
 use pac_ports::Dice;
 use poll_log::{Question, Terms};
-use poll_loop::{Event, Poller};
+use poll_loop::{BeatCounter, Event, Poller};
 use std::alloc::Global;
 use std::sync::ledger::Ledger;
 use step_counter::Steps;
@@ -29,8 +28,7 @@ pub struct Core<R: Run> {
     pub(crate) sessions: Vec<Session<R, R::Outcome>>,
     table: AnswerTable,
     stub: Stub,
-    // since the last tick or the last beat
-    datagrams: u64,
+    beats: BeatCounter,
     // memory ran out in the midst of an event
     broken: bool,
 }
@@ -42,22 +40,22 @@ fn take_event<R: Run, D: Dice, L: Ledger>(
     sessions: &mut [Session<R, R::Outcome>],
     table: &mut AnswerTable,
     stub: &mut Stub,
-    datagrams: &mut u64,
+    beats: &mut BeatCounter,
     dice: &mut D,
     runs: &mut Steps<L>,
 ) -> Result<Vec<Question>, Memory>
     ensures ok { IfOk result (λ sent. (task : Task) (turns : Turns) →
-        Stands R.gives R.tree sessions.old table.old stub.old datagrams.old task turns →
-        Stepped (Stands R.gives R.tree sessions.new table.new stub.new datagrams.new task)
+        Stands R.gives R.tree sessions.old table.old stub.old beats.old task turns →
+        Stepped (Stands R.gives R.tree sessions.new table.new stub.new beats.new task)
         task turns (event_of event.entry) (map octets_of sent.items)
         (D.told dice.old) (D.told dice.new) runs.old runs.new) }
     ensures memory { OnErr result ((task : Task) (turns : Turns) →
-        Stands R.gives R.tree sessions.old table.old stub.old datagrams.old task turns →
+        Stands R.gives R.tree sessions.old table.old stub.old beats.old task turns →
         StepFails task turns (event_of event.entry) (D.told dice.old) (D.told dice.new) runs.old runs.new) }
     ensures kept { OnOk result (map (λ s. s.run) sessions.new ≡ map (λ s. s.run) sessions.old) }
 {
     let mut sent = hear(alloc, event, sessions, table, stub, dice, runs)?;
-    if !counts_beat(datagrams, event) {
+    if !beats.count(event) {
         return Ok(sent);
     }
     let mut again = take_beat(alloc, sessions, stub)?;
@@ -88,7 +86,7 @@ impl<R: Run> Core<R> {
     ) -> Result<(Core<R>, Vec<Question>), Memory>
         requires { AreTerms terms }
         ensures ok { IfOk result (λ begun. (old : Outside) → old.dice ≡ D.told dice.old → old.runs ≡ runs.old →
-            Began (StandsFor R.gives R.tree begun.0.sessions.items begun.0.table begun.0.stub begun.0.datagrams
+            Began (StandsFor R.gives R.tree begun.0.sessions.items begun.0.table begun.0.stub begun.0.beats
             begun.0.broken (task_of terms (run_jobs R.tree all.items)))
             (task_of terms (run_jobs R.tree all.items)) (map octets_of begun.1.items) old (D.told dice.new) runs.new) }
         ensures sessions { IfOk result (λ begun. map (λ s. s.run) begun.0.sessions.items ≡ all.items) }
@@ -97,13 +95,14 @@ impl<R: Run> Core<R> {
     {
         let table = AnswerTable::new(alloc);
         let mut stub = Stub::new(alloc, terms.wait, terms.tries);
+        let beats = BeatCounter::new();
         let begun = begin(alloc, all, &table, &mut stub, dice, runs)?;
         let Begun { sessions, asked } = begun;
         let core = Core {
             sessions,
             table,
             stub,
-            datagrams: 0,
+            beats,
             broken: false,
         };
         Ok((core, asked))
@@ -121,7 +120,7 @@ impl<R: Run> Core<R> {
         requires { k < length self.now.sessions.items }
         ensures { (task : Task) (turns : Turns) (job : Job) →
             StandsFor R.gives R.tree self.now.sessions.items self.now.table self.now.stub
-            self.now.datagrams self.now.broken task turns →
+            self.now.beats self.now.broken task turns →
             IsState task.terms turns (get_or task.jobs k job) result }
     {
         without_outcome(&self.sessions[k].state)
@@ -133,11 +132,11 @@ impl<R: Run> Core<R> {
         requires { k < length self.now.sessions.items }
         ensures none { result ≡ None → (task : Task) (turns : Turns) (job : Job) →
             StandsFor R.gives R.tree self.now.sessions.items self.now.table self.now.stub
-            self.now.datagrams self.now.broken task turns →
+            self.now.beats self.now.broken task turns →
             IsFinished task.terms turns (get_or task.jobs k job) → ⊥ }
         ensures some { IfSome result (λ outcome. (task : Task) (turns : Turns) (job : Job) (run : R) →
             StandsFor R.gives R.tree self.now.sessions.items self.now.table self.now.stub
-            self.now.datagrams self.now.broken task turns →
+            self.now.beats self.now.broken task turns →
             IsFinished task.terms turns (get_or task.jobs k job)
             × IsOutcome R.gives (R.tree (get_or (map (λ s. s.run) self.now.sessions.items) k run))
             (told task.terms turns) outcome.now) }
@@ -150,7 +149,7 @@ impl<R: Run> Core<R> {
         requires { k < length self.now.sessions.items }
         ensures { (task : Task) (turns : Turns) (job : Job) →
             StandsFor R.gives R.tree self.now.sessions.items self.now.table self.now.stub
-            self.now.datagrams self.now.broken task turns →
+            self.now.beats self.now.broken task turns →
             result ≡ runs_of task.terms turns (get_or task.jobs k job) }
     {
         self.sessions[k].runs
@@ -162,7 +161,7 @@ impl<R: Run> Poller for Core<R> {
     ghost use Rattle.session_core.specs.Stands.{StandsFor};
 
     ghost stands = { λ core task turns.
-        StandsFor R.gives R.tree core.sessions.items core.table core.stub core.datagrams core.broken task turns };
+        StandsFor R.gives R.tree core.sessions.items core.table core.stub core.beats core.broken task turns };
 
     ghost Kept = { List R };
 
@@ -181,14 +180,14 @@ impl<R: Run> Poller for Core<R> {
     ) -> Result<Vec<Question>, Memory>
         ensures ok { IfOk result (λ sent. (task : Task) (turns : Turns) →
             StandsFor R.gives R.tree self.old.sessions.items self.old.table self.old.stub
-            self.old.datagrams self.old.broken task turns →
+            self.old.beats self.old.broken task turns →
             Stepped (λ after. StandsFor R.gives R.tree self.new.sessions.items self.new.table self.new.stub
-            self.new.datagrams self.new.broken task after)
+            self.new.beats self.new.broken task after)
             task turns (event_of event.entry) (map octets_of sent.items)
             (D.told dice.old) (D.told dice.new) runs.old runs.new) }
         ensures memory { OnErr result ((task : Task) (turns : Turns) →
             StandsFor R.gives R.tree self.old.sessions.items self.old.table self.old.stub
-            self.old.datagrams self.old.broken task turns →
+            self.old.beats self.old.broken task turns →
             StepFails task turns (event_of event.entry) (D.told dice.old) (D.told dice.new) runs.old runs.new) }
         // Each session goes on with its run.
         ensures kept { OnOk result (
@@ -210,7 +209,7 @@ impl<R: Run> Poller for Core<R> {
             &mut self.sessions,
             &mut self.table,
             &mut self.stub,
-            &mut self.datagrams,
+            &mut self.beats,
             dice,
             runs,
         )?;

@@ -11,7 +11,8 @@ use Rattle.pac_ask.proofs.Plans.{held_is_told, memory_drawn}
 use Rattle.pac_ask.proofs.asking.ask_name.Goals as goal
 
 pub returns-in_default : goal.returns-in_default
-returns-in_default g c o = memory_drawn c.args.asking c.args.name _ c.id-id.result _ c.id-id.ensures
+returns-in_default g c o =
+    memory_drawn c.args.asking c.args.name (record { waits = c.requires.waits; wait = c.requires.wait; tried = c.requires.tried; tries = c.requires.tries }) c.in_default.ensures.named _ c.id-id.result _ c.id-id.ensures
 
 pub returns-in-Ok-poll : goal.returns-in-Ok-poll
 returns-in-Ok-poll g c o =

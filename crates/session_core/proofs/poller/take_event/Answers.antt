@@ -5,13 +5,13 @@ use Rattle.session_core.proofs.Drawing.{at_error}
 use Rattle.session_core.proofs.Turning.{buried_keeps, hears_keeps, step_fails, stepped_beat, stepped_none}
 use Rattle.session_core.proofs.poller.take_event.Goals as goal
 
-pub returns-then-not-counts_beat-clause-ok : goal.returns-then-not-counts_beat-clause-ok
-returns-then-not-counts_beat-clause-ok g c =
-    stepped_none _ _ _ _ _ _ _ _ _ _ _ _ _ _ _ _ _ c.counts_beat.ensures.beat c.counts_beat.ensures.counted c.in_ok-sent.ensures.ok c.in_ok-sent.ensures.ran c.if-not-counts_beat.true
+pub returns-then-not-count-clause-ok : goal.returns-then-not-count-clause-ok
+returns-then-not-count-clause-ok g c =
+    stepped_none _ _ _ _ _ _ _ _ _ _ _ _ _ _ _ _ _ c.count.ensures.beat c.count.ensures.counted c.in_ok-sent.ensures.ok c.in_ok-sent.ensures.ran c.if-not-count.true
 
 pub returns-clause-ok : goal.returns-clause-ok
 returns-clause-ok g c =
-    stepped_beat _ _ _ _ _ _ _ _ _ _ _ _ _ _ _ _ _ c.counts_beat.ensures.beat c.counts_beat.ensures.counted c.in_ok-sent.ensures.ok c.in_ok-sent.ensures.ran c.if-not-counts_beat.false _ _ _ _
+    stepped_beat _ _ _ _ _ _ _ _ _ _ _ _ _ _ _ _ _ c.count.ensures.beat c.count.ensures.counted c.in_ok-sent.ensures.ok c.in_ok-sent.ensures.ran c.if-not-count.false _ _ _ _
     c.in_ok-again.ensures.again c.in_ok-again.ensures.stub c.in_ok-again.ensures.sessions c.in_ok-append.ensures.items
 
 pub returns-in_err-sent-clause-memory : goal.returns-in_err-sent-clause-memory
@@ -26,8 +26,8 @@ pub returns-in_err-append-clause-memory : goal.returns-in_err-append-clause-memo
 returns-in_err-append-clause-memory g c =
     at_error c.from_residual-in_err-append.result (step_fails _ _ _ _ _ _ _ _ _ _ _ (_, c.in_ok-sent.ensures.ok.cascades.drew) c.hear.ensures.most)
 
-pub returns-then-not-counts_beat-clause-kept : goal.returns-then-not-counts_beat-clause-kept
-returns-then-not-counts_beat-clause-kept g c = hears_keeps _ _ _ _ _ _ _ _ _ _ _ _ c.in_ok-sent.ensures.ok
+pub returns-then-not-count-clause-kept : goal.returns-then-not-count-clause-kept
+returns-then-not-count-clause-kept g c = hears_keeps _ _ _ _ _ _ _ _ _ _ _ _ c.in_ok-sent.ensures.ok
 
 pub returns-clause-kept : goal.returns-clause-kept
 returns-clause-kept g c =

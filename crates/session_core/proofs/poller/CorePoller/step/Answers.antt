@@ -14,7 +14,7 @@ pub returns-clause-ok : goal.returns-clause-ok
 returns-clause-ok g c task turns s =
     let is : (with_items c.args.self.now.sessions c.take_event.new.sessions).items ≡ c.take_event.new.sessions = with_items_is c.args.self.now.sessions c.take_event.new.sessions (omega arith) in
     let taken = c.in_ok-sent.ensures.ok task turns (rw c.deref_mut.ensures.value s.stands) in
-    subst (λ l. Stepped (StandsFor g.R.Run.gives g.R.Run.tree l c.take_event.new.table c.take_event.new.stub c.take_event.new.datagrams false task) task turns (event_of c.args.event) (map octets_of c.in_ok-sent.sent.items) (g.D.Dice.told c.args.dice.now) (g.D.Dice.told c.take_event.new.dice) c.args.runs.now c.take_event.new.runs) (sym is)
+    subst (λ l. Stepped (StandsFor g.R.Run.gives g.R.Run.tree l c.take_event.new.table c.take_event.new.stub c.take_event.new.beats false task) task turns (event_of c.args.event) (map octets_of c.in_ok-sent.sent.items) (g.D.Dice.told c.args.dice.now) (g.D.Dice.told c.take_event.new.dice) c.args.runs.now c.take_event.new.runs) (sym is)
     (stepped_whole _ _ _ _ _ _ _ _ _ _ _ _ _ _ taken)
 
 pub returns-in_err-sent-clause-memory : goal.returns-in_err-sent-clause-memory

@@ -1,0 +1,5 @@
+use Rattle.pac_ask.proofs.Begin.{sound}
+use Rattle.pac_ask.proofs.laws.asks_are_sound.Goals as goal
+
+pub returns : goal.returns
+returns c asking name terms named = sound asking.terms name terms named
