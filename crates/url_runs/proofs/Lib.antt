@@ -5,3 +5,4 @@ pub mod Sound
 pub mod Running
 pub mod Tests
 pub mod Outputs
+pub mod Answered

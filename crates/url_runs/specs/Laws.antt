@@ -1,19 +1,24 @@
 -- Laws of what is reported of URLs.
-use Rattle.std.specs.Prelude.{◌≤◌, ◌+◌, List, length, map}
+use Rattle.std.specs.Prelude.{◌≡◌, ◌≤◌, ◌+◌, List, length, map}
+use Rattle.batch_text.specs.Batch.{BatchEntry}
 use Rattle.js_host.specs.Answers.{AnswerMap}
 use Rattle.run_trees.specs.WholeRun.{asked_names}
 use Rattle.js_evaluation.specs.Evaluation.{Entry}
+use Rattle.pac_ports.specs.declared.link.Move.{Move}
+use Rattle.pac_plan.specs.declared.status.Status.TheVariants as status
 use Rattle.poll_log.specs.declared.terms.Terms.{Terms}
-use Rattle.poll_log.specs.Turns.{Turns}
+use Rattle.poll_log.specs.Turns.{Turns, turns_of}
 use Rattle.poll_log.specs.Told.{told}
-use Rattle.poll_log.specs.Jobs.{runs_of}
+use Rattle.poll_log.specs.Jobs.{IsPolled, runs_of}
+use Rattle.poll_log.specs.Laws.{IsAllTold}
 use Rattle.poll_loop.specs.Task.{IsSound}
 use Rattle.poll_loop.specs.declared.looping.Asking.{Asking}
 use Rattle.stub_poller.specs.Ready.{AreTerms}
 use Rattle.session_log.specs.Sessions.{Holds}
 use Rattle.session_core.specs.Resolved.{talk_of}
 use Rattle.url_runs.specs.Runs.{Resolved, url_run}
-use Rattle.url_runs.specs.Resolving.{url_job}
+use Rattle.url_runs.specs.Reports.{reported}
+use Rattle.url_runs.specs.Resolving.{Completion, all_ended, url_job}
 
 -- A URL costs at most one run more than the distinct names that its uninterrupted run asks, against every map of all names
 -- that holds what is told.
@@ -27,3 +32,10 @@ abbrev pub TasksAreSound : Type 0
 TasksAreSound =
     (asking : Asking) (program : Resolved) (entries : List Entry) → AreTerms asking.terms
     → IsSound (talk_of asking (map (url_job program) entries)).task
+
+-- Where the log is polled and each name that was sent is told, no URL is unanswered.
+abbrev pub ToldAreAnswered : Type 0
+ToldAreAnswered =
+    (complete : Completion) (terms : Terms) (program : Resolved) (batch : List BatchEntry) (entries : List Entry) (log : List Move)
+    → IsPolled terms (map (url_job program) entries) (turns_of log) → IsAllTold terms (turns_of log)
+    → (reported batch (all_ended program complete terms (turns_of log) entries)).status ≡ status.Unanswered → ⊥

@@ -1,6 +1,6 @@
 // Laws of what is reported.
 ghost use Rattle.url_runs.specs.Resolving.{Completion};
-ghost use Rattle.url_runs.specs.Laws.{RunsAreFew, TasksAreSound};
+ghost use Rattle.url_runs.specs.Laws.{RunsAreFew, TasksAreSound, ToldAreAnswered};
 
 /// No URL costs more runs than the distinct names of its whole run, and one.
 pub fn runs_are_few()
@@ -15,4 +15,9 @@ pub fn completions_are_there()
 /// What is polled for is sound.
 pub fn tasks_are_sound()
     ensures { TasksAreSound }
+{}
+
+/// Where each name that was sent is told, no URL is unanswered.
+pub fn told_are_answered()
+    ensures { ToldAreAnswered }
 {}
