@@ -108,13 +108,6 @@ impl<R: Run> Core<R> {
         Ok((core, asked))
     }
 
-    /// How many sessions there are.
-    pub fn len(&self) -> usize
-        ensures { result ≡ length self.now.sessions.items }
-    {
-        self.sessions.len()
-    }
-
     /// What has become of a session.
     pub fn state(&self, k: usize) -> SessionState
         requires { k < length self.now.sessions.items }
