@@ -5,6 +5,8 @@
 #![tactic(auto)]
 
 ghost use Rattle.std.specs.Prelude.{◌≡◌, ◌<◌};
+ghost use Rattle.std.specs.Process.{exit_status};
+ghost use Rattle.pac_plan.specs.Exit.{exit_number};
 
 use pac_command::{Status, pac};
 use pac_machine::{DiskFiles, MachineClock, StandardOutput, words_of};
@@ -25,6 +27,13 @@ fn main(rt: HostRuntime) -> ExitCode {
         // A word that isn't UTF-8 is read by no command, and neither are no words at all.
         Err(_) => called::<Brand, HostRuntime>(&rt, &Vec::new(rt.alloc()), Blank::new(1)),
     };
+    exit_code(status)
+}
+
+// The exit with the number of a status.
+fn exit_code(status: Status) -> ExitCode
+    ensures { exit_status result ≡ exit_number status }
+{
     ExitCode::from(status.number())
 }
 
