@@ -4,7 +4,7 @@ ghost use Rattle.std.specs.Prelude.{◌≡◌, ◌<◌};
 use crate::network::Network;
 use anyhow::Result;
 use pac_command::{Status, pac};
-use pac_ports::{FixedClock, MemoryFiles, Sink};
+use pac_ports::{FixedClock, ListDice, MemoryFiles, MemoryLink, Sink};
 use std::alloc::Global;
 use std::marker::Brand;
 use std::sync::ledger::{Blank, Ledger};
@@ -36,7 +36,8 @@ pub(crate) fn status_at<K: Sink>(
         &words,
         files,
         out,
-        network,
+        &mut network.link,
+        &mut network.dice,
         FixedClock::new(moment),
         Blank::new(1),
     ))
@@ -56,7 +57,8 @@ fn called<K: Sink, L: Ledger>(
     words: &Vec<String>,
     files: &mut MemoryFiles,
     out: &mut K,
-    network: &mut Network,
+    link: &mut MemoryLink,
+    dice: &mut ListDice,
     mut clock: FixedClock,
     blank: Blank,
 ) -> Status
@@ -65,6 +67,5 @@ fn called<K: Sink, L: Ledger>(
     requires some { 0 < blank.parts }
 {
     let mut runs = Steps::<L>::new(blank);
-    let Network { link, dice } = network;
     pac(alloc, words, files, out, link, &mut clock, dice, &mut runs)
 }
