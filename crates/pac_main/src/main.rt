@@ -11,16 +11,22 @@ ghost use Rattle.pac_plan.specs.Exit.{exit_number};
 use pac_command::{Status, pac};
 use pac_machine::{DiskFiles, MachineClock, StandardOutput, words_of};
 use pac_net::{RandomDice, UdpLink};
-use std::io;
 use std::marker::Brand;
 use std::net::Net;
 use std::process::ExitCode;
 use std::random::RandomSource;
 use std::sync::ledger::{Blank, Ledger};
 use std::time::Clock;
+use std::{fs, io};
 use step_counter::Steps;
 
+/// A device that is read as nothing, and can't be written where it was opened to be read.
+const NOTHING: &str = "/dev/null";
+
 fn main(rt: HostRuntime) -> ExitCode {
+    // Where the program is started without a standard output the socket would take its number, and what is to be
+    // written would go to the server. These two take the numbers of standard input and output where they are free.
+    let _held = (fs::open(&rt, NOTHING), fs::open(&rt, NOTHING));
     let status = match words_of(&rt) {
         Ok(words) => called::<Brand, HostRuntime>(&rt, &words, Blank::new(1)),
         Err(error) if error.kind() == io::ErrorKind::OutOfMemory => Status::Memory,
