@@ -56,7 +56,8 @@ fn urls_in(batch: &Batch) -> u32 {
     count
 }
 
-fn written(alloc: Global, batch: &Batch) -> Result<String> {
+/// The lines of a batch, parted by commas.
+pub(crate) fn written(alloc: Global, batch: &Batch) -> Result<String> {
     let mut lines = String::new(alloc);
     for line in batch.as_slice() {
         if !lines.is_empty() {

@@ -1,14 +1,15 @@
 //! What scripts are handed: shell expressions, ranges of weekdays, dates and times, the functions over a host, what a
-//! script sees of a URL, files of names and batches. A table of calls with their answers.
+//! script sees of a URL, files of names, batches, and what is generated of such. A table of calls with their answers.
 //!
 //! The cases are those of the page on the Netscape Navigator Proxy Auto-Config format, those of the URL Standard, and
 //! those in which docs/ decides what they leave open. It reads them from its input, and stands on pac_match,
-//! pac_calendar, pac_functions, proxy_list and batch_text.
+//! pac_calendar, pac_functions, proxy_list, batch_text and pac_generate.
 #![tactic(auto)]
 
 mod batches;
 mod clocks;
 mod functions;
+mod generated;
 mod names;
 mod ranges;
 mod urls;
@@ -37,6 +38,11 @@ fn answer(alloc: Global, part: &str, fields: &[&str]) -> Result<String> {
         "long files of names" => names::told_behind(alloc, fields),
         "batches" => batches::asked(alloc, fields),
         "long batches" => batches::counted(alloc, fields),
+        "generated scripts" => generated::script(alloc, fields),
+        "generated batches" => generated::batch(alloc, fields),
+        "generated answers" => generated::answers(alloc, fields),
+        "replies of a link" => generated::replies(alloc, fields),
+        "summaries" => generated::summary(alloc, fields),
         "urls" => urls::seen(alloc, fields),
         "long urls" => urls::length(alloc, fields),
         _ => bail!("no part {part}"),

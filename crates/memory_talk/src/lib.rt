@@ -1,0 +1,12 @@
+//! Talks over a link in memory, whose questions are answered from a map and numbered 0, 1, 2 and so on.
+//!
+//! `CountingDice` give the numbers; the link is that of pac_generate, and the loop that of poll_loop.
+//! `specs/Talks.antt` says what such a talk does to the outside of a command: nothing but runs of scripts.
+//! `specs/Laws.antt` says that its sessions end as their runs against the map do.
+#![tactic(auto)]
+
+mod counting_dice;
+mod laws;
+
+pub use counting_dice::CountingDice;
+pub use laws::{agrees_with_the_map, one_log, sites_have_addresses, told_is_the_maps};

@@ -1,0 +1,142 @@
+// A link in memory that answers questions from a map.
+ghost use Rattle.std.specs.Prelude.{◌≡◌, ◌≤◌, length, IfOk};
+ghost use Rattle.js_host.specs.Answers.{AnswerMap};
+
+use crate::limits::{MOST_MOVES, MOST_QUESTIONS};
+use crate::replies::keep_reply;
+use answer_table::AnswerTable;
+use pac_ports::{Failed, Got, Link, Move, Octets, Server};
+use std::alloc::Global;
+use std::marker::{Brand, Model, PhantomData};
+use utf16_text::Memory;
+
+/// The answers that a link gives, as contracts know them. A type for them makes each link tell what it answered,
+/// whatever code it was handed to.
+pub trait KnownAnswers {
+    ghost answers: { AnswerMap };
+}
+
+impl KnownAnswers for Brand {
+    ghost use Rattle.std.specs.FinMap as map;
+
+    ghost answers = { map.empty };
+}
+
+/// A link in memory that replies to the first 8,192 questions that it is sent, in their order, with the answer that a
+/// table has for each; where no reply is due it ticks. The room for 16,384 moves is taken beforehand: a call that would
+/// pass it fails.
+#[derive(Drop)]
+pub struct MapLink<'a, K: KnownAnswers> {
+    known: &'a AnswerTable,
+    log: Vec<Move>,
+    // The replies to the questions so far.
+    replies: Vec<Octets>,
+    // How many of them were given.
+    given: usize,
+    opens: u64,
+    server: Option<Server>,
+    faults: u64,
+    answers: PhantomData<K>,
+}
+
+impl<'a, K: KnownAnswers> Model for MapLink<'a, K> {
+    ghost use Rattle.std.specs.Prelude.{◌≤◌, ◌^◌, ◌<◌, vec_len, vec_capacity};
+    ghost use Rattle.pac_generate.specs.MapLink.{MapLinkState, IsKept};
+    ghost use Rattle.pac_generate.specs.declared.limits.TheConstants.{MOST_MOVES, MOST_QUESTIONS};
+
+    ghost Value = { MapLinkState };
+
+    ghost view = { λ l. record { log = l.log.items; opens = l.opens; server = l.server; faults = l.faults } };
+
+    ghost invariant = { λ l.
+        (vec_len l.log ≤ MOST_MOVES) × (MOST_MOVES ≤ vec_capacity l.log) × (vec_len l.replies ≤ MOST_QUESTIONS) × (MOST_QUESTIONS ≤ vec_capacity l.replies)
+        × (l.faults < 2 ^ 64) × IsKept K.answers l.known.now l.log.items l.replies.items l.given };
+}
+
+impl<'a, K: KnownAnswers> MapLink<'a, K> {
+    ghost use Rattle.poll_log.specs.Turns.{turns_of};
+    ghost use Rattle.pac_generate.specs.Answered.{IsAnswered};
+    ghost use Rattle.pac_generate.specs.MapLink.{new_map_link, with_fault};
+
+    /// Takes all room that the link needs.
+    pub fn new(alloc: Global, known: &'a AnswerTable) -> Result<MapLink<'a, K>, Memory>
+        requires { known.now ≡ K.answers }
+        ensures { IfOk result (λ l. l ≡ new_map_link) }
+    {
+        Ok(MapLink {
+            known,
+            log: Vec::with_capacity(alloc, MOST_MOVES)?,
+            replies: Vec::with_capacity(alloc, MOST_QUESTIONS)?,
+            given: 0,
+            opens: 0,
+            server: None,
+            faults: 0,
+            answers: PhantomData,
+        })
+    }
+
+    /// The moves so far. Each event among them is the reply that was due then, or a tick where none was due.
+    pub fn log(&self) -> &[Move]
+        ensures moves { result.now ≡ self.now.log }
+        ensures answered { IsAnswered K.answers (turns_of self.now.log) }
+    {
+        self.log.as_slice()
+    }
+
+    // Counts a fault.
+    fn fail(&mut self) -> Failed
+        ensures { self.new ≡ with_fault self.old }
+    {
+        self.faults = self.faults.saturating_add(1);
+        Failed
+    }
+}
+
+impl<'a, K: KnownAnswers> Link for MapLink<'a, K> {
+    ghost use Rattle.pac_ports.specs.Link.{HasOpened, HasSent, HasReceived};
+    ghost use Rattle.pac_generate.specs.MapLink.{link_of, Opens, Sends, Receives};
+
+    ghost state = { link_of };
+
+    fn open(&mut self, server: Server) -> Result<(), Failed>
+        ensures opened { HasOpened (link_of self.old) server result (link_of self.new) }
+        ensures exactly { Opens self.old server result self.new }
+    {
+        self.opens = self.opens.saturating_add(1);
+        self.server = Some(server);
+        Ok(())
+    }
+
+    fn send(&mut self, datagram: &[u8]) -> Result<(), Failed>
+        requires { length datagram.now ≤ 512 }
+        ensures sent { HasSent (link_of self.old) datagram.now result (link_of self.new) }
+        ensures exactly { Sends self.old datagram.now result self.new }
+    {
+        if self.log.len() >= MOST_MOVES {
+            return Err(self.fail());
+        }
+        keep_reply(self.known, &mut self.replies, datagram);
+        self.log.push_reserved(Move::Sent(Octets::new(datagram)));
+        Ok(())
+    }
+
+    fn receive(&mut self, buffer: &mut [u8; 512]) -> Result<Got, Failed>
+        ensures received { HasReceived (link_of self.old) buffer.new result (link_of self.new) }
+        ensures exactly { Receives K.answers self.old buffer.old result buffer.new self.new }
+    {
+        if self.log.len() >= MOST_MOVES {
+            return Err(self.fail());
+        }
+        if self.given >= self.replies.len() {
+            self.log.push_reserved(Move::Tick);
+            return Ok(Got::Tick);
+        }
+        let octets = self.replies[self.given].as_slice();
+        let count = octets.len();
+        buffer[..count].copy_from_slice(octets);
+        let reply = Octets::new(octets);
+        self.log.push_reserved(Move::Given(reply));
+        self.given += 1;
+        Ok(Got::Datagram(count))
+    }
+}
