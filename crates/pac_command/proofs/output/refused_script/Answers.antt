@@ -15,3 +15,4 @@ returns c =
     ∙ ap (λ text. record { status = Refused; text = codes "refused script " ++ (text ++ 32 ∷ (c.kind_name-name.result.now ++ 10 ∷ [])) }) (sym (append_assoc (decimal c.args.place.line) (58 ∷ []) (decimal c.args.place.column)))
     ∙ ap (λ word. record { status = Refused; text = codes "refused script " ++ (place ++ 32 ∷ (word ++ 10 ∷ [])) }) c.kind_name-name.ensures
     ∙ ap (λ rest. record { status = Refused; text = codes "refused script " ++ rest }) (sym (append_assoc place (32 ∷ name) (10 ∷ [])))
+    ∙ ap (λ rest. record { status = Refused; text = codes "refused script " ++ (rest ++ 10 ∷ []) }) (sym (append_assoc place (32 ∷ []) name))
