@@ -1,5 +1,5 @@
 -- The report: the lines that are written of each URL of a batch, in the order of the URLs. Each line ends with a line feed.
-use Rattle.std.specs.Prelude.{ℕ, ◌+◌, ℤ, List, [], ◌∷◌, ◌++◌, Bool, true, false, if◌then◌else◌, flat_map, codes}
+use Rattle.std.specs.Prelude.{ℕ, ◌+◌, ℤ, List, [], ◌∷◌, ◌++◌, Bool, true, false, if◌then◌else◌, flat_map, codes, Option, Some, None}
 use Rattle.std.specs.Fmt.{decimal}
 use Rattle.utf16_text.specs.Escape.{escaped}
 use Rattle.js_tree.specs.declared.place.Place.{Place}
@@ -93,14 +93,22 @@ block number url end tries = url_line number url ++ end_lines end.end ++ flat_ma
 
 -- ---- the proxies to try
 
-abbrev pub tries_by : List Report → ℤ → Ending → List Proxy
-tries_by reports moment (Gives text) = try_order reports (proxies_of text) moment
-tries_by reports moment (Fails fault) = []
+abbrev pub given_by : Ending → Option (List ℕ)
+given_by (Gives text) = Some text
+given_by (Fails fault) = None
+
+-- the result, where there is one
+abbrev pub result_of : End → Option (List ℕ)
+result_of (done outcome) = given_by outcome.ending
+result_of (unanswered name) = None
+
+abbrev pub tries_by : List Report → ℤ → Option (List ℕ) → List Proxy
+tries_by reports moment (Some text) = try_order reports (proxies_of text) moment
+tries_by reports moment None = []
 
 -- those of a result, in the order in which to try them at a moment, after these reports of proxies
 abbrev pub tries_of : List Report → ℤ → End → List Proxy
-tries_of reports moment (done outcome) = tries_by reports moment outcome.ending
-tries_of reports moment (unanswered name) = []
+tries_of reports moment end = tries_by reports moment (result_of end)
 
 -- ---- all of them
 

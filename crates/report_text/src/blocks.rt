@@ -1,5 +1,5 @@
 // The report of a batch.
-ghost use Rattle.std.specs.Prelude.{◌≡◌, ◌++◌, List, IfOk, OnOk, false, flat_map, map};
+ghost use Rattle.std.specs.Prelude.{◌≡◌, ◌++◌, List, IfOk, OnOk, false, flat_map, map, option_map};
 ghost use Rattle.bad_proxy_table.specs.Retry.{Report, StandsFor};
 ghost use Rattle.batch_text.specs.Batch.{entry_seen};
 ghost use Rattle.utf16_text.specs.Escape.{escaped};
@@ -8,6 +8,7 @@ ghost use Rattle.js_interp.specs.Answers.{seen_outcome};
 ghost use Rattle.report_text.specs.Report as spec;
 ghost use Rattle.report_text.specs.Report.{done, seen, seen_end};
 
+use crate::draft::Draft;
 use crate::fault::{fault_name, has_detail};
 use bad_proxy_table::BadTable;
 use batch_text::{Batch, BatchLine};
@@ -26,6 +27,23 @@ pub enum End {
     Unanswered(LookupName),
 }
 
+impl End {
+    ghost use Rattle.report_text.specs.Report.{result_of, seen};
+
+    /// The result, where there is one.
+    pub fn result(&self) -> Option<&Text>
+        ensures { option_map (λ text. text.now) result ≡ result_of (seen self.now) }
+    {
+        match self {
+            End::Done(outcome) => match &outcome.ending {
+                Ending::Result(text) => Some(text),
+                Ending::Fault(_) => None,
+            },
+            End::Unanswered(_) => None,
+        }
+    }
+}
+
 /// How it ended with one URL, and how many runs it took.
 #[derive(Drop)]
 pub struct UrlEnd {
@@ -34,11 +52,19 @@ pub struct UrlEnd {
 }
 
 /// The report of a batch, whose URLs end so, in their order: lines of bytes. Behind a result stand its proxies in the
-/// order in which to try them, by what the lines before the URL's tell of proxies.
+/// order in which to try them, by what the lines before the URL's tell of proxies. Its length is counted first, and its
+/// bytes are taken at once.
 pub fn report(alloc: Global, batch: &Batch, ends: &[UrlEnd]) -> Result<Vec<u8>, Memory>
     ensures { IfOk result (λ bytes. bytes.items ≡ spec.report_of (map entry_seen batch.now) (map seen_end ends.now)) }
 {
-    let mut out = Vec::new(alloc);
+    drafted(alloc, batch, ends)?.written(alloc)
+}
+
+/// The report in pieces.
+fn drafted<'a>(alloc: Global, batch: &'a Batch, ends: &'a [UrlEnd]) -> Result<Draft<'a>, Memory>
+    ensures { IfOk result (λ draft. draft ≡ spec.report_of (map entry_seen batch.now) (map seen_end ends.now)) }
+{
+    let mut out = Draft::new(alloc);
     let mut proxies = BadTable::new(alloc);
     let mut left = ends;
     let mut number = 1u64;
@@ -60,17 +86,17 @@ pub fn report(alloc: Global, batch: &Batch, ends: &[UrlEnd]) -> Result<Vec<u8>, 
 }
 
 /// The lines of one URL at a moment.
-fn write_tried(
+fn write_tried<'a>(
     alloc: Global,
-    out: &mut Vec<u8>,
+    out: &mut Draft<'a>,
     number: u64,
-    url: &Text,
+    url: &'a Text,
     moment: i64,
-    end: &UrlEnd,
+    end: &'a UrlEnd,
     proxies: &BadTable,
 ) -> Result<(), Memory>
     ensures { OnOk result ((reports : List Report) → StandsFor proxies.now reports
-        → out.new.items ≡ out.old.items ++ spec.block number url.now (seen_end end.now) (spec.tries_of reports moment (seen end.now.end))) }
+        → out.new ≡ out.old ++ spec.block number url.now (seen_end end.now) (spec.tries_of reports moment (seen end.now.end))) }
 {
     let tries = tries_of(alloc, proxies, moment, &end.end)?;
     write_block(alloc, out, number, url, end, tries.as_slice())
@@ -80,59 +106,63 @@ fn write_tried(
 fn tries_of(alloc: Global, proxies: &BadTable, moment: i64, end: &End) -> Result<ProxyList, Memory>
     ensures { IfOk result (λ tries. (reports : List Report) → StandsFor proxies.now reports → tries ≡ spec.tries_of reports moment (seen end.now)) }
 {
-    let End::Done(outcome) = end else {
-        return Ok(ProxyList::new(alloc));
-    };
-    let Ending::Result(text) = &outcome.ending else {
-        return Ok(ProxyList::new(alloc));
-    };
-    proxies.order(alloc, &parse_list(alloc, text)?, moment)
+    match end.result() {
+        Some(text) => proxies.order(alloc, &parse_list(alloc, text)?, moment),
+        None => Ok(ProxyList::new(alloc)),
+    }
 }
 
 /// The lines of one URL with these proxies to try.
-fn write_block(
+fn write_block<'a>(
     alloc: Global,
-    out: &mut Vec<u8>,
+    out: &mut Draft<'a>,
     number: u64,
-    url: &Text,
-    end: &UrlEnd,
+    url: &'a Text,
+    end: &'a UrlEnd,
     tries: &[Proxy],
 ) -> Result<(), Memory>
-    ensures { OnOk result (out.new.items ≡ out.old.items ++ spec.block number url.now (seen_end end.now) tries.now) }
+    ensures { OnOk result (out.new ≡ out.old ++ spec.block number url.now (seen_end end.now) tries.now) }
 {
     write_url(alloc, out, number, url)?;
     write_end(alloc, out, &end.end)?;
-    write_tries(alloc, out, tries)?;
+    out.made(try_lines(alloc, tries)?)?;
     write_runs(alloc, out, end.runs)
 }
 
-fn write_tries(alloc: Global, out: &mut Vec<u8>, tries: &[Proxy]) -> Result<(), Memory>
-    ensures { OnOk result (out.new.items ≡ out.old.items ++ flat_map spec.try_line tries.now) }
+/// The lines of proxies to try.
+fn try_lines(alloc: Global, tries: &[Proxy]) -> Result<Vec<u8>, Memory>
+    ensures { IfOk result (λ lines. lines.items ≡ flat_map spec.try_line tries.now) }
 {
+    let mut lines = Vec::new(alloc);
     for proxy in tries {
-        write_try(alloc, out, proxy)?;
+        write_try(alloc, &mut lines, proxy)?;
     }
+    Ok(lines)
+}
+
+fn write_try(alloc: Global, lines: &mut Vec<u8>, proxy: &Proxy) -> Result<(), Memory>
+    ensures { OnOk result (lines.new.items ≡ lines.old.items ++ spec.try_line proxy.now) }
+{
+    lines.extend_from_slice(b"try ")?;
+    write_entry(alloc, proxy, lines)?;
+    lines.push(b'\n')?;
     Ok(())
 }
 
-fn write_try(alloc: Global, out: &mut Vec<u8>, proxy: &Proxy) -> Result<(), Memory>
-    ensures { OnOk result (out.new.items ≡ out.old.items ++ spec.try_line proxy.now) }
+fn write_url<'a>(
+    alloc: Global,
+    out: &mut Draft<'a>,
+    number: u64,
+    url: &'a Text,
+) -> Result<(), Memory>
+    ensures { OnOk result (out.new ≡ out.old ++ spec.url_line number url.now) }
 {
-    out.extend_from_slice(b"try ")?;
-    write_entry(alloc, proxy, out)?;
-    out.push(b'\n')?;
-    Ok(())
+    out.made(format!(in alloc; "url {number} ")?.into_bytes())?;
+    write_text(out, b"", url)
 }
 
-fn write_url(alloc: Global, out: &mut Vec<u8>, number: u64, url: &Text) -> Result<(), Memory>
-    ensures { OnOk result (out.new.items ≡ out.old.items ++ spec.url_line number url.now) }
-{
-    let word = format!(in alloc; "url {number} ")?;
-    write_text(alloc, out, word.as_bytes(), url)
-}
-
-fn write_end(alloc: Global, out: &mut Vec<u8>, end: &End) -> Result<(), Memory>
-    ensures { OnOk result (out.new.items ≡ out.old.items ++ spec.end_lines (seen end.now)) }
+fn write_end<'a>(alloc: Global, out: &mut Draft<'a>, end: &'a End) -> Result<(), Memory>
+    ensures { OnOk result (out.new ≡ out.old ++ spec.end_lines (seen end.now)) }
 {
     match end {
         End::Done(outcome) => write_outcome(alloc, out, outcome),
@@ -140,63 +170,58 @@ fn write_end(alloc: Global, out: &mut Vec<u8>, end: &End) -> Result<(), Memory>
     }
 }
 
-fn write_runs(alloc: Global, out: &mut Vec<u8>, runs: u64) -> Result<(), Memory>
-    ensures { OnOk result (out.new.items ≡ out.old.items ++ spec.runs_line runs) }
+fn write_runs(alloc: Global, out: &mut Draft<'_>, runs: u64) -> Result<(), Memory>
+    ensures { OnOk result (out.new ≡ out.old ++ spec.runs_line runs) }
 {
-    let line = format!(in alloc; "runs {runs}\n")?;
-    out.extend_from_slice(line.as_bytes())?;
-    Ok(())
+    out.made(format!(in alloc; "runs {runs}\n")?.into_bytes())
 }
 
-fn write_outcome(alloc: Global, out: &mut Vec<u8>, outcome: &Outcome) -> Result<(), Memory>
-    ensures { OnOk result (out.new.items ≡ out.old.items ++ spec.end_lines (done (seen_outcome outcome.now))) }
+fn write_outcome<'a>(alloc: Global, out: &mut Draft<'a>, outcome: &'a Outcome) -> Result<(), Memory>
+    ensures { OnOk result (out.new ≡ out.old ++ spec.end_lines (done (seen_outcome outcome.now))) }
 {
-    write_alerts(alloc, out, outcome.alerts.as_slice())?;
+    write_alerts(out, outcome.alerts.as_slice())?;
     match &outcome.ending {
-        Ending::Result(text) => write_text(alloc, out, b"result ", text),
+        Ending::Result(text) => write_text(out, b"result ", text),
         Ending::Fault(fault) => write_fault(alloc, out, fault),
     }
 }
 
-fn write_alerts(alloc: Global, out: &mut Vec<u8>, alerts: &[Text]) -> Result<(), Memory>
-    ensures { OnOk result (out.new.items ≡ out.old.items ++ flat_map spec.alert_line alerts.now) }
+fn write_alerts<'a>(out: &mut Draft<'a>, alerts: &'a [Text]) -> Result<(), Memory>
+    ensures { OnOk result (out.new ≡ out.old ++ flat_map spec.alert_line alerts.now) }
 {
     for alert in alerts {
-        write_text(alloc, out, b"alert ", alert)?;
+        write_text(out, b"alert ", alert)?;
     }
     Ok(())
 }
 
 /// A line of a word and more bytes.
-fn write_line(out: &mut Vec<u8>, word: &[u8], bytes: &[u8]) -> Result<(), Memory>
-    ensures { OnOk result (out.new.items ≡ out.old.items ++ spec.line (word.now ++ bytes.now)) }
+fn write_line<'a>(out: &mut Draft<'a>, word: &'a [u8], bytes: &'a [u8]) -> Result<(), Memory>
+    ensures { OnOk result (out.new ≡ out.old ++ spec.line (word.now ++ bytes.now)) }
 {
-    out.extend_from_slice(word)?;
-    out.extend_from_slice(bytes)?;
-    out.push(b'\n')?;
-    Ok(())
+    out.bytes(word)?;
+    out.bytes(bytes)?;
+    out.bytes(b"\n")
 }
 
 /// A line of a word and a text.
-fn write_text(alloc: Global, out: &mut Vec<u8>, word: &[u8], text: &Text) -> Result<(), Memory>
-    ensures { OnOk result (out.new.items ≡ out.old.items ++ spec.line (word.now ++ escaped false text.now)) }
+fn write_text<'a>(out: &mut Draft<'a>, word: &'a [u8], text: &'a Text) -> Result<(), Memory>
+    ensures { OnOk result (out.new ≡ out.old ++ spec.line (word.now ++ escaped false text.now)) }
 {
-    out.extend_from_slice(word)?;
-    text.escape_into(alloc, out, false)?;
-    out.push(b'\n')?;
-    Ok(())
+    out.bytes(word)?;
+    out.escaped(text)?;
+    out.bytes(b"\n")
 }
 
-fn write_fault(alloc: Global, out: &mut Vec<u8>, fault: &Fault) -> Result<(), Memory>
-    ensures { OnOk result (out.new.items ≡ out.old.items ++ spec.ending_line (Fails fault.now)) }
+fn write_fault<'a>(alloc: Global, out: &mut Draft<'a>, fault: &'a Fault) -> Result<(), Memory>
+    ensures { OnOk result (out.new ≡ out.old ++ spec.ending_line (Fails fault.now)) }
 {
     let name = fault_name(fault.code);
     let place = fault.place;
-    out.extend_from_slice(format!(in alloc; "fault {name} at {place}")?.as_bytes())?;
+    out.made(format!(in alloc; "fault {name} at {place}")?.into_bytes())?;
     if has_detail(fault.code) {
-        out.push(b' ')?;
-        fault.detail.escape_into(alloc, out, false)?;
+        out.bytes(b" ")?;
+        out.escaped(&fault.detail)?;
     }
-    out.push(b'\n')?;
-    Ok(())
+    out.bytes(b"\n")
 }

@@ -2,8 +2,8 @@ use Rattle.std.proofs.Common.{rules, FitsSigned, w64, to_z-of_z, ◌+◌, ◌∷
 use Rattle.batch_text.specs.declared.batch.BatchLine.{BatchLine}
 use Rattle.batch_text.specs.Batch.{entry_seen}
 use Rattle.report_text.proofs.Steps.{after_failure, after_success, after_url, next_end, next_line}
-use Rattle.report_text.proofs.blocks.report.Goals.{in-Fail+in_ok-failed-in-Fail, in-Good+in_ok-worked-in-Good, in-Get+in-len1-up+in_ok-write_tried-in-Get}
-use Rattle.report_text.proofs.blocks.report.Goals as goal
+use Rattle.report_text.proofs.blocks.drafted.Goals.{in-Fail+in_ok-failed-in-Fail, in-Good+in_ok-worked-in-Good, in-Get+in-len1-up+in_ok-write_tried-in-Get}
+use Rattle.report_text.proofs.blocks.drafted.Goals as goal
 
 pub loop-line-preserved : goal.loop-line-preserved
 loop-line-preserved c =

@@ -1,7 +1,0 @@
-use Rattle.std.proofs.Common.{◌≡◌, ◌++◌, take}
-use Rattle.std.specs.Prelude.{flat_map}
-use Rattle.report_text.specs.Report.{try_line}
-use Rattle.report_text.proofs.blocks.write_tries.Given as goal
-
-abbrev pub invariant-loop-proxy : goal.invariant-loop-proxy
-invariant-loop-proxy l = l.out.items ≡ l.fn.out.items ++ flat_map try_line (take l.proxy-index l.tries)
