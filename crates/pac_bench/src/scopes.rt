@@ -4,7 +4,7 @@ use js_parser::read_script;
 use js_scope::resolve;
 use std::fs;
 use std::time::Instant;
-use utf16_text::Text;
+use utf16_text::{LONGEST_FILE, Text};
 
 /// The word is a script's file. It writes the number of its functions, and the nanoseconds that reading and resolving
 /// took.
@@ -14,10 +14,7 @@ pub fn run(rt: &HostRuntime, words: &[String]) -> Result<()> {
     };
     let bytes = fs::read(rt, file.as_str())?;
     let source = Text::from_bytes(rt.alloc(), &bytes)?;
-    ensure!(
-        source.len() <= 1_048_576,
-        "a script of at most 1,048,576 units"
-    );
+    ensure!(source.len() <= LONGEST_FILE, "a script within its limit");
     let start = Instant::now(rt)?;
     let Ok(script) = read_script(rt.alloc(), &source) else {
         bail!("a script that the parser reads");

@@ -1,7 +1,9 @@
 // What the words ask for.
 ghost use Rattle.std.specs.Prelude.{◌<◌, ◌≤◌};
 ghost use Rattle.std.specs.Option.{ForSome};
+ghost use Rattle.batch_text.specs.declared.batch.TheConstants.{MOST_URLS};
 ghost use Rattle.pac_calendar.specs.declared.showing.TheConstants.{LAST_MOMENT};
+ghost use Rattle.poll_log.specs.declared.terms.TheConstants.{MOST_TRIES, MOST_WAIT};
 
 use pac_calendar::Zone;
 use pac_ports::Server;
@@ -14,9 +16,9 @@ pub struct Asking {
     pub wait: u32,
     pub tries: u32,
     ghost waits: { 0 < wait },
-    ghost wait_within: { wait ≤ 1000 },
+    ghost wait_within: { wait ≤ MOST_WAIT },
     ghost tried: { 0 < tries },
-    ghost tries_within: { tries ≤ 8 },
+    ghost tries_within: { tries ≤ MOST_TRIES },
 }
 
 /// What a run of the script has.
@@ -41,9 +43,9 @@ pub enum Source<'a> {
 #[derive(Clone, Copy)]
 pub struct Generating {
     pub seed: u32,
-    /// How many sites there are.
+    /// How many sites there are: as many as a batch has URLs.
     pub sites: u32,
-    ghost few: { sites ≤ 256 },
+    ghost few: { sites ≤ MOST_URLS },
 }
 
 /// A command with its arguments.

@@ -22,9 +22,11 @@ use crate::command::{Asking, Command, Generating, Running, Source};
 use crate::number::{number, number_or};
 use crate::parse::value;
 use crate::quad::{quad_or, server_or};
-use crate::usual::{LOCAL, USUAL_FUEL, USUAL_TRIES, USUAL_WAIT};
+use crate::usual::{LOCAL, MOST_FUEL, USUAL_FUEL, USUAL_TRIES, USUAL_WAIT};
+use batch_text::MOST_URLS;
 use clap::ArgMatches;
 use pac_calendar::{LAST_MOMENT, Zone, read_zone};
+use poll_log::{MOST_TRIES, MOST_WAIT};
 
 // The moment of an option `--now`; the inner None is the clock's.
 fn moment(text: Option<&str>) -> Option<Option<u64>>
@@ -74,8 +76,18 @@ fn asking(matches: &ArgMatches<'_>) -> Option<Asking>
     ensures { option_map asking_view result ≡ asking_of (given_in matches.now) }
 {
     let server = server_or(value(matches, "server"))?;
-    let wait = number_or(value(matches, "wait"), USUAL_WAIT as u64, 1, 1000)?;
-    let tries = number_or(value(matches, "tries"), USUAL_TRIES as u64, 1, 8)?;
+    let wait = number_or(
+        value(matches, "wait"),
+        USUAL_WAIT as u64,
+        1,
+        MOST_WAIT as u64,
+    )?;
+    let tries = number_or(
+        value(matches, "tries"),
+        USUAL_TRIES as u64,
+        1,
+        MOST_TRIES as u64,
+    )?;
     Some(Asking {
         server,
         wait: wait as u32,
@@ -86,7 +98,7 @@ fn asking(matches: &ArgMatches<'_>) -> Option<Asking>
 fn running(matches: &ArgMatches<'_>) -> Option<Running>
     ensures { option_map running_view result ≡ running_of (given_in matches.now) }
 {
-    let fuel = number_or(value(matches, "fuel"), USUAL_FUEL, 1, 1_000_000_000)?;
+    let fuel = number_or(value(matches, "fuel"), USUAL_FUEL, 1, MOST_FUEL)?;
     let my_ip = quad_or(value(matches, "my-ip"), LOCAL)?;
     let zone = zone(value(matches, "zone"))?;
     let now = moment(value(matches, "now"))?;
@@ -147,7 +159,7 @@ pub(crate) fn generate<'a>(matches: &ArgMatches<'a>) -> Option<Command<'a>>
     ensures { option_map command_view result ≡ generate_of (given_in matches.now) }
 {
     let seed = number_given(value(matches, "seed"), 0, 4_294_967_295)?;
-    let sites = number_given(value(matches, "sites"), 1, 256)?;
+    let sites = number_given(value(matches, "sites"), 1, MOST_URLS as u64)?;
     let generating = Generating {
         seed: seed as u32,
         sites: sites as u32,

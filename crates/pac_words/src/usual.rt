@@ -1,7 +1,10 @@
-// What is taken where the words don't say it.
+// What is taken where the words don't say it, and how much fuel they may give.
 
 /// The fuel of a run.
 pub const USUAL_FUEL: u64 = 10_000_000;
+
+/// The most fuel that words give.
+pub const MOST_FUEL: u64 = 1_000_000_000;
 
 /// How many beats pass from one sending of a question to the next.
 pub const USUAL_WAIT: u32 = 10;

@@ -19,4 +19,4 @@ pub use laws::{
     unanswered_stays,
 };
 pub use question::Question;
-pub use terms::{FLOOD, Terms};
+pub use terms::{FLOOD, MOST_TRIES, MOST_WAIT, Terms};

@@ -50,13 +50,6 @@ added_more xs ys s = go s.told
     go None = refl
     go (Some t) = ap (λ (l : List Move). let y : LinkState = record s { told = Some (record t { log = l }) } in y) (append_assoc t.log xs ys)
 
-pub added_none : (s : LinkState) → adding [] s ≡ s
-added_none s = go s.told
-  where
-    go : (t : Option LinkTold) → (let x : LinkState = record s { told = t } in adding [] x ≡ x)
-    go None = refl
-    go (Some t) = ap (λ (l : List Move). let y : LinkState = record s { told = Some (record t { log = l }) } in y) (append-nil t.log)
-
 pub linked_by : (server : Server) (ms : List Move) (s : LinkState) → 0 < length ms → adding ms (with_open server s) ≡ linked server ms s
 linked_by server [] s low = absurd (omega arith)
 linked_by server (m ∷ ms) s low = refl

@@ -1,6 +1,7 @@
 // The loop.
-ghost use Rattle.std.specs.Prelude.{◌≡◌, ℕ, ◌+◌, ◌<◌, ◌≤◌, OnOk, length, map, true};
+ghost use Rattle.std.specs.Prelude.{◌≡◌, ℕ, ◌+◌, ◌*◌, ◌<◌, ◌≤◌, OnOk, length, map, true};
 ghost use Rattle.pac_plan.specs.Plan.{Outside};
+ghost use Rattle.poll_log.specs.declared.terms.TheConstants.{MOST_TRIES, MOST_WAIT};
 ghost use Rattle.poll_log.specs.Turns.{turns_of};
 ghost use Rattle.poll_log.specs.Questions.{octets_of};
 ghost use Rattle.poll_log.specs.Told.{limit};
@@ -47,7 +48,7 @@ pub fn poll<P: Poller, N: Link, D: Dice, L: Ledger>(
     dice: &mut D,
     runs: &mut Steps<L>,
 ) -> Result<(), Stop>
-    requires lasts { limit asking.terms ≤ 8000 }
+    requires lasts { limit asking.terms ≤ MOST_WAIT * MOST_TRIES }
     ensures polled { (talk : Talk) (old : Outside) → talk.server ≡ asking.server → talk.task.terms ≡ asking.terms →
         old.link ≡ N.state link.old →
         Began (P.stands poller.old talk.task) talk.task (map octets_of first.now) old (D.told dice.old) runs.old →

@@ -1,6 +1,7 @@
 // What a beat brings.
 ghost use Rattle.std.specs.Prelude.{◌≡◌, ◌+◌, ◌*◌, ◌<◌, ◌≤◌, ◌++◌, map, vec_capacity, vec_len, length};
 ghost use Rattle.std.specs.List.{filter};
+ghost use Rattle.poll_log.specs.declared.terms.TheConstants.{MOST_TRIES, MOST_WAIT};
 ghost use Rattle.stub_poller.specs.State.{is_sent_again, is_over, question_of, name_of};
 
 use pac_names::LookupName;
@@ -18,7 +19,7 @@ pub struct BeatReport {
 pub(crate) fn list_resends(list: &mut Vec<Question>, flights: &[Flight], terms: Terms)
     requires room { length flights.now ≤ vec_capacity list.old }
     requires waits { 0 < terms.wait }
-    requires lasts { terms.wait * terms.tries ≤ 8000 }
+    requires lasts { terms.wait * terms.tries ≤ MOST_WAIT * MOST_TRIES }
     ensures listed { list.new.items ≡ map question_of (filter (is_sent_again terms) flights.now) }
     ensures capacity { vec_capacity list.old ≤ vec_capacity list.new }
 {

@@ -20,6 +20,7 @@ ghost use Rattle.std.specs.Prelude.{
 ghost use Rattle.std.specs.List.{All, HoldsAt, filter};
 ghost use Rattle.std.specs.Borrow.{sem};
 ghost use Rattle.dns_message.specs.Numbers.{number_at};
+ghost use Rattle.poll_log.specs.declared.terms.TheConstants.{MOST_TRIES, MOST_WAIT};
 ghost use Rattle.stub_poller.specs.State.{
   aged,
   answer_to,
@@ -71,9 +72,9 @@ impl Stub {
     /// sending. It takes no memory.
     pub fn new(alloc: Global, wait: u32, tries: u32) -> Stub
         requires waits { 0 < wait }
-        requires wait { wait ≤ 1000 }
+        requires wait { wait ≤ MOST_WAIT }
         requires tried { 0 < tries }
-        requires tries { tries ≤ 8 }
+        requires tries { tries ≤ MOST_TRIES }
         ensures { result ≡ new_stub (record { wait = wait; tries = tries }) }
     {
         Stub {
