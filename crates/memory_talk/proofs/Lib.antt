@@ -6,4 +6,4 @@ mod Given
 pub mod Told
 pub mod Agreeing
 pub mod Addresses
-mod Same
+pub mod Same

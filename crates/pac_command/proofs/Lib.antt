@@ -1,3 +1,5 @@
 pub mod Lengths
 pub mod Programs
 pub mod Stepping
+pub mod Laws
+pub mod Generated

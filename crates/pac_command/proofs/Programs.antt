@@ -1,19 +1,35 @@
 -- How the programs of the commands are followed.
 use Rattle.std.proofs.Common.{◌≡◌, ℕ, ℤ, inl, inr, Option, Some, None, refl, subst}
 use Rattle.pac_ports.specs.Clock.{ClockTold}
-use Rattle.pac_plan.specs.Plan.{Outside, Output, say, at_once, timed}
-use Rattle.pac_plan.specs.Follows.{IsUnlessMemory}
+use Rattle.pac_plan.specs.Plan.{Outside, Output, Program, Talks, say, at_once, timed}
+use Rattle.pac_plan.specs.Follows as plans
+use Rattle.pac_plan.specs.Follows.{Gives, IsUnlessMemory}
+use Rattle.pac_plan.specs.declared.status.Status.{Status}
+use Rattle.pac_plan.proofs.Served as served
+use Rattle.pac_ports.specs.Sink.{SinkState}
+use Rattle.pac_ask.specs.Talks.{talks}
+use Rattle.memory_talk.proofs.Answering.{answering}
 use Rattle.poll_loop.specs.declared.looping.Asking.{Asking}
 use Rattle.pac_words.specs.Commands.{Running}
 use Rattle.pac_command.specs.declared.given.Given.{Given}
-use Rattle.pac_command.specs.Plans.{CommandPlan, CommandProgram, Follows, FollowsProgram}
+use Rattle.pac_command.specs.Plans.{CommandPlan, CommandProgram, Doing, over_link, in_memory, Follows, FollowsDoing, FollowsProgram, Serves}
 use Rattle.pac_command.specs.Begun.{IsMoment, begun, begun_at, given_at}
 use Rattle.pac_command.specs.Commands.{usage}
 
 -- memory may run out before anything is done
-pub memory_first : (program : CommandProgram) (o : Outside) → FollowsProgram program o o None
-memory_first (at_once plan) o = inr (refl, refl)
-memory_first (timed next) o = inr (refl, refl)
+at_first : {T : Type 0} (K : Talks T) (program : Program T) (o : Outside) → plans.FollowsProgram K program o o None
+at_first K (at_once plan) o = inr (refl, refl)
+at_first K (timed next) o = inr (refl, refl)
+
+pub memory_first : (doing : Doing) (o : Outside) → FollowsDoing doing o o None
+memory_first (over_link program) o = at_first talks program o
+memory_first (in_memory program) o = at_first answering program o
+
+-- what was followed and written was served
+pub serves : (doing : Doing) (old new : Outside) (out out' : SinkState) (given : Status) (made : Option Output)
+    → FollowsDoing doing old new made → Gives made given out out' → Serves doing old new out out' given
+serves (over_link program) old new out out' given made followed gave = served.serves talks program old new out out' given made followed gave
+serves (in_memory program) old new out out' given made followed gave = served.serves answering program old new out out' given made followed gave
 
 pub says_usage : (o : Outside) (made : Option Output) → IsUnlessMemory usage made → FollowsProgram (at_once (say usage)) o o made
 says_usage o made h = inl (refl, h)

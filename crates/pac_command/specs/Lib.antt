@@ -5,4 +5,6 @@ pub mod Names
 pub mod Begun
 pub mod Urls
 pub mod Check
+pub mod Generate
 pub mod Commands
+pub mod Laws

@@ -1,9 +1,8 @@
 -- How a command reads a script, and what it says of one that isn't read.
-use Rattle.std.specs.Prelude.{ℕ, List, ◌++◌, ◌∷◌, codes}
+use Rattle.std.specs.Prelude.{ℕ, List, ◌++◌, codes}
 use Rattle.std.specs.Fmt.{decimal}
 use Rattle.utf16_text.specs.Decode.{decoded_units}
 use Rattle.js_tree.specs.Tree.{StatementTree}
-use Rattle.js_tree.specs.declared.place.Place.{Place}
 use Rattle.js_tree.specs.declared.refusal.ReadKind.{ReadKind}
 use Rattle.js_tree.specs.declared.refusal.ReadKind.TheVariants as kind
 use Rattle.js_grammar.specs.Reading.{Refusal}

@@ -6,13 +6,14 @@ ghost use Rattle.pac_plan.specs.OutputView.{output_view, made};
 ghost use Rattle.pac_words.specs.Commands.{command_of};
 ghost use Rattle.pac_words.specs.Views.{asking_view, command_view};
 ghost use Rattle.stub_poller.specs.Ready.{AreTerms};
-ghost use Rattle.pac_command.specs.Plans.{FollowsProgram, Serves};
-ghost use Rattle.url_runs.specs.Laws.{RunsAreFew, TasksAreSound};
+ghost use Rattle.pac_command.specs.Plans.{FollowsDoing, Serves};
 ghost use Rattle.url_runs.specs.Resolving.{Completion};
-ghost use Rattle.pac_command.specs.Commands.{asking_of, program_of, usage};
+ghost use Rattle.pac_command.specs.Commands.{asking_of, doing_of, usage};
+ghost use Rattle.pac_command.specs.Laws.{CommandsKeepLaws};
 
 use crate::Status;
 use crate::check::check;
+use crate::generate::generate;
 use crate::map::map;
 use crate::resolve::resolve;
 use pac_ask::ask;
@@ -30,7 +31,7 @@ use utf16_text::Memory;
 /// A process is expected to end with it: the memory of a script's tree is left to the system.
 ///
 /// `runs` counts the runs of scripts. Only `resolve` and `ask` touch the link and the dice, and only `resolve` and
-/// `map` the clock, once, where the words don't say the moment.
+/// `map` the clock, once, where the words don't say the moment; `generate` touches nothing but `runs`.
 pub fn pac<F: Files, K: Sink, N: Link, C: Clock, D: Dice, L: Ledger>(
     alloc: Global,
     words: &Vec<String>,
@@ -44,14 +45,14 @@ pub fn pac<F: Files, K: Sink, N: Link, C: Clock, D: Dice, L: Ledger>(
     // The plan of the words is followed and its output written, with the order and completeness of every plan. What
     // `resolve` reports is by runs against a map of all names, whichever agrees with the first accepted replies of the
     // log.
-    ensures serves { (complete : Completion) → Serves (program_of complete (command_of (map string_bytes words.now.items)))
+    ensures serves { (complete : Completion) → Serves (doing_of complete (command_of (map string_bytes words.now.items)))
         (record { files = F.state files.old; link = N.state link.old; clock = C.told clock.old; dice = D.told dice.old; runs = runs.old })
         (record { files = F.state files.new; link = N.state link.new; clock = C.told clock.new; dice = D.told dice.new; runs = runs.new })
         (K.state out.old) (K.state out.new) result }
-    // No URL costs more runs than the distinct names of its whole run, and one.
-    ensures few_runs { RunsAreFew }
-    // What `resolve` polls for is sound, so where memory ran out its log is cut short.
-    ensures sound { TasksAreSound }
+    // What is polled for is sound, so where memory ran out the log is cut short; nothing is unanswered where each name is
+    // told; no URL costs more runs than the distinct names of its whole run, and one; and what `generate` reads and logs
+    // is one script and one log.
+    ensures laws { CommandsKeepLaws }
 {
     match output_of(alloc, words, files, link, clock, dice, runs) {
         Ok(output) => give(out, &output),
@@ -69,7 +70,7 @@ fn output_of<F: Files, N: Link, C: Clock, D: Dice, L: Ledger>(
     dice: &mut D,
     runs: &mut Steps<L>,
 ) -> Result<Output, Memory>
-    ensures { (complete : Completion) (o : Outside) → FollowsProgram (program_of complete (command_of (map string_bytes words.now)))
+    ensures { (complete : Completion) (o : Outside) → FollowsDoing (doing_of complete (command_of (map string_bytes words.now)))
         (record o { files = F.state files.old; link = N.state link.old; clock = C.told clock.old; dice = D.told dice.old; runs = runs.old })
         (record o { files = F.state files.new; link = N.state link.new; clock = C.told clock.new; dice = D.told dice.new; runs = runs.new }) (made result) }
 {
@@ -92,7 +93,7 @@ fn done<F: Files, N: Link, C: Clock, D: Dice, L: Ledger>(
     dice: &mut D,
     runs: &mut Steps<L>,
 ) -> Result<Output, Memory>
-    ensures { (complete : Completion) (o : Outside) → FollowsProgram (program_of complete (Some (command_view command.now)))
+    ensures { (complete : Completion) (o : Outside) → FollowsDoing (doing_of complete (Some (command_view command.now)))
         (record o { files = F.state files.old; link = N.state link.old; clock = C.told clock.old; dice = D.told dice.old; runs = runs.old })
         (record o { files = F.state files.new; link = N.state link.new; clock = C.told clock.new; dice = D.told dice.new; runs = runs.new }) (made result) }
 {
@@ -122,7 +123,7 @@ fn done<F: Files, N: Link, C: Clock, D: Dice, L: Ledger>(
         } => map(alloc, names, script, from, running, files, clock, runs),
         Command::Check { script } => check(alloc, script, files),
         Command::Ask { name, asking } => ask(alloc, name, asking_of(*asking), link, dice, runs),
-        Command::Generate(_) => faulty_usage(alloc),
+        Command::Generate(generating) => generate(alloc, *generating, runs),
     }
 }
 

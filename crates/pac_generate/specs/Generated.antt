@@ -1,8 +1,9 @@
 -- What a seed and a number of sites generate: a script, a batch of URLs, and the answers to all names that it asks for.
-use Rattle.std.specs.Prelude.{ℕ, zero, suc, ℤ, pos, List, [], ◌∷◌, ◌++◌, codes}
+use Rattle.std.specs.Prelude.{ℕ, zero, suc, List, [], ◌∷◌, ◌++◌, codes}
 use Rattle.batch_text.specs.declared.batch.BatchLine.{BatchLine}
 use Rattle.batch_text.specs.declared.batch.BatchLine.TheVariants as line
 use Rattle.pac_generate.specs.Names.{site_name, site_map}
+use Rattle.pac_generate.specs.declared.generating.TheConstants.{MOMENT}
 use Rattle.pac_generate.specs.declared.generating.Generated.{Generated}
 
 -- a line of the script, and a line feed
@@ -19,16 +20,12 @@ script =
     (line_then (codes "  return \"SOCKS \" + gate + \":1080; DIRECT\";")
     (line_then (codes "}") [])))))
 
--- the moment of every URL
-abbrev pub moment : ℤ
-moment = pos 1700000000
-
 abbrev pub site_url : ℕ → List ℕ
 site_url site = codes "http://" ++ site_name site ++ codes "/"
 
 -- a site's line: `get` and its URL
 abbrev pub site_line : ℕ → BatchLine
-site_line site = line.Get moment (record { url = site_url site; host = site_name site })
+site_line site = line.Get MOMENT (record { url = site_url site; host = site_name site })
 
 -- one line for each site, in order
 abbrev pub site_lines : ℕ → List BatchLine

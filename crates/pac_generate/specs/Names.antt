@@ -6,6 +6,7 @@ use Rattle.pac_names.specs.declared.answer.Answer.{Answer}
 use Rattle.pac_names.specs.declared.answer.Answer.TheVariants.{Address, NoAddress}
 use Rattle.js_host.specs.Answers.{Name, AnswerMap}
 use Rattle.pac_generate.specs.Numbers.{site_number}
+use Rattle.pac_generate.specs.declared.names.TheConstants.{GATES}
 
 -- the host that a URL names
 abbrev pub site_name : ℕ → Name
@@ -33,5 +34,5 @@ gate_map (suc digit) = map.insert (gate_map digit) (gate_name digit) (gate_answe
 
 -- and for so many sites besides the ten gates
 abbrev pub site_map : ℕ → ℕ → AnswerMap
-site_map seed zero = gate_map 10
+site_map seed zero = gate_map GATES
 site_map seed (suc site) = map.insert (site_map seed site) (site_name site) (site_answer (site_number seed site))

@@ -57,6 +57,7 @@ impl<'a, K: KnownAnswers> MapLink<'a, K> {
     ghost use Rattle.poll_log.specs.Turns.{turns_of};
     ghost use Rattle.pac_generate.specs.Answered.{IsAnswered};
     ghost use Rattle.pac_generate.specs.MapLink.{new_map_link, with_fault};
+    ghost use Rattle.pac_generate.specs.declared.limits.TheConstants.{MOST_MOVES};
 
     /// Takes all room that the link needs.
     pub fn new(alloc: Global, known: &'a AnswerTable) -> Result<MapLink<'a, K>, Memory>
@@ -79,6 +80,7 @@ impl<'a, K: KnownAnswers> MapLink<'a, K> {
     pub fn log(&self) -> &[Move]
         ensures moves { result.now ≡ self.now.log }
         ensures answered { IsAnswered K.answers (turns_of self.now.log) }
+        ensures room { length self.now.log ≤ MOST_MOVES }
     {
         self.log.as_slice()
     }

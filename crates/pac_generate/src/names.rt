@@ -1,5 +1,6 @@
 // The names that a generated script asks for, and their answers.
 ghost use Rattle.std.specs.Prelude.{◌≡◌, ◌<◌, ◌≤◌, ◌^◌, IfOk, string_bytes};
+ghost use Rattle.pac_generate.specs.declared.names.TheConstants.{GATES};
 ghost use Rattle.pac_generate.specs.Names.{
   gate_answer,
   gate_map,
@@ -18,7 +19,7 @@ use std::alloc::{AllocError, Global};
 use utf16_text::Memory;
 
 /// How many gates there are: one for each digit.
-const GATES: u32 = 10;
+pub const GATES: u32 = 10;
 
 /// The answers for all gates and so many sites.
 #[tactic(auto, using(crate::proofs::StepLaws::site_map_more, crate::proofs::StepLaws::number_more))]
@@ -39,7 +40,7 @@ pub(crate) fn answers(alloc: Global, seed: u32, sites: u32) -> Result<AnswerTabl
 // The answers for all gates.
 #[tactic(auto, using(crate::proofs::StepLaws::gate_map_more))]
 fn gate_answers(alloc: Global) -> Result<AnswerTable, Memory>
-    ensures { IfOk result (λ table. table ≡ gate_map 10) }
+    ensures { IfOk result (λ table. table ≡ gate_map GATES) }
 {
     let mut table = AnswerTable::new(alloc);
     for digit in 0..GATES {
@@ -74,7 +75,7 @@ fn gate_name(alloc: Global, digit: u32) -> Result<String, AllocError>
 
 // The same as a name to look up.
 fn gate_key(alloc: Global, digit: u32) -> Result<LookupName, Memory>
-    requires { digit < 10 }
+    requires { digit < GATES }
     ensures { IfOk result (λ name. name ≡ gate_name digit) }
 {
     let name = gate_name(alloc, digit)?;

@@ -2,7 +2,7 @@ use Rattle.std.proofs.Common.{inl}
 use Rattle.pac_words.specs.Views.{running_view, source_view}
 use Rattle.pac_command.specs.Begun.{begun}
 use Rattle.pac_command.specs.Commands.{resolve_plan}
-use Rattle.pac_command.proofs.Programs.{by_asking, says_usage}
+use Rattle.pac_command.proofs.Programs.{by_asking}
 use Rattle.pac_command.proofs.top.done.Goals as goal
 
 pub returns-in-Resolve : goal.returns-in-Resolve
@@ -21,4 +21,6 @@ pub returns-in-Ask : goal.returns-in-Ask
 returns-in-Ask g c = λ complete o. rw (c.in-Ask.is, ← c.asking_of-in-Ask.ensures.same) (inl (c.ask.ensures (record o { files = g.F.Files.state c.args.files.now; clock = g.C.Clock.told c.args.clock.now })))
 
 pub returns-in-Generate : goal.returns-in-Generate
-returns-in-Generate g c = λ complete o. rw c.in-Generate.is (says_usage _ _ c.faulty_usage.ensures)
+returns-in-Generate g c = λ complete o.
+    rw c.in-Generate.is
+    (inl (c.generate.ensures (record o { files = g.F.Files.state c.args.files.now; link = g.N.Link.state c.args.link.now; clock = g.C.Clock.told c.args.clock.now; dice = g.D.Dice.told c.args.dice.now })))

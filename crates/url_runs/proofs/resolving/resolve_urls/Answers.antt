@@ -1,4 +1,4 @@
-use Rattle.std.proofs.Common.{List, map, refl, subst}
+use Rattle.std.proofs.Common.{List, map, subst}
 use Rattle.js_evaluation.specs.Evaluation.{Entry}
 use Rattle.js_interp.specs.Answers.{entry_of}
 use Rattle.batch_text.specs.Batch.{entry_seen}

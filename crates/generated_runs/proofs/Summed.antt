@@ -1,0 +1,100 @@
+-- What a talk over a link in memory is summed up to.
+use Rattle.std.specs.Result.{IsErrAnd}
+use Rattle.std.proofs.Common.{◌≡◌, ℕ, ◌<◌, ◌≤◌, List, length, Option, None, Some, Result, Ok, Err, refl, ◌∙◌, ap, subst, arith, map}
+use Rattle.js_host.specs.Answers.{AnswerMap}
+use Rattle.js_evaluation.specs.Evaluation.{Entry}
+use Rattle.pac_ports.specs.declared.link.Move.{Move}
+use Rattle.pac_ports.specs.Faults.{last_count}
+use Rattle.pac_plan.specs.Plan as plans
+use Rattle.pac_plan.specs.Plan.{End, Outside, whole, unfinished}
+use Rattle.pac_plan.specs.Follows.{Follows, IsUnlessMemory}
+use Rattle.pac_plan.specs.OutputView.{made}
+use Rattle.pac_plan.specs.declared.output.Output.{Output}
+use Rattle.pac_plan.proofs.GivesUp.{gives_up}
+use Rattle.poll_log.specs.Turns.{turns_of}
+use Rattle.poll_log.specs.Questions.{firsts}
+use Rattle.poll_loop.specs.Talks as loop
+use Rattle.poll_loop.specs.declared.looping.Asking.{Asking}
+use Rattle.poll_loop.specs.declared.looping.Stop.{Stop}
+use Rattle.poll_loop.specs.declared.looping.Stop.TheVariants as stop
+use Rattle.report_text.specs.Report.{UrlEnd}
+use Rattle.pac_generate.specs.Answered.{IsAnswered}
+use Rattle.pac_generate.specs.MapLink.{MapLinkState, link_of, new_map_link}
+use Rattle.pac_generate.specs.declared.limits.TheConstants.{MOST_MOVES}
+use Rattle.memory_talk.specs.Laws.{AreAddresses}
+use Rattle.memory_talk.specs.Numbers.{counted}
+use Rattle.memory_talk.specs.Talks.{MemoryTalk}
+use Rattle.memory_talk.proofs.Answering.{answering}
+use Rattle.memory_talk.proofs.Ends.{answered_early, answered_whole, names_counted, same_log}
+use Rattle.url_runs.specs.Runs.{Resolved}
+use Rattle.url_runs.specs.Ends.{HaveEnded}
+use Rattle.url_runs.specs.Resolving.{ended, urls_talk}
+use Rattle.generated_runs.specs.declared.summing.Seed.{Seed}
+use Rattle.generated_runs.specs.Summing.{said, sum_plan, summary}
+use Rattle.generated_runs.proofs.Numbers.{below_last}
+use Rattle.generated_runs.proofs.Ends.{ends_by_map}
+
+-- an outside where nothing is told
+abbrev pub nowhere : Outside
+nowhere = record { files = record { told = None; faults = 0; sure = None }; link = link_of new_map_link; clock = None; dice = None; runs = 0 }
+
+-- nothing is made for want of memory
+pub none_made : {E : Type 0} (P : E → Type 0) (r : Result Output E) → IsErrAnd r P → made r ≡ None
+none_made P (Ok output) h = absurd h
+none_made P (Err e) h = refl
+
+pub no_output : {E : Type 0} (P : E → Type 0) (plan : plans.Plan MemoryTalk) (o : Outside) (r : Result Output E) → IsErrAnd r P → Follows answering plan o o (made r)
+no_output P plan o (Ok output) h = absurd h
+no_output P plan o (Err e) h = gives_up answering plan o
+
+-- the outside of the link in memory before the talk and behind it, beside the one that the command has
+pub record IsBeside (o inner inner' : Outside) (link : MapLinkState) (n : ℕ) : Type 0 where
+  pub fresh : inner.link ≡ link_of new_map_link
+  pub left : inner'.link ≡ link_of link
+  pub none : inner.dice ≡ Some (counted 0)
+  pub drew : inner'.dice ≡ Some (counted n)
+  pub runs : o.runs ≡ inner.runs
+
+module _ (answers : AnswerMap) (asking : Asking) (program : Resolved) (entries : List Entry) (o inner inner' : Outside) (link : MapLinkState) (n : ℕ)
+    (beside : IsBeside o inner inner' link n) (answered : IsAnswered answers (turns_of link.log)) where
+  abbrev after : Outside
+  after = record o { runs = inner'.runs }
+
+  -- memory ran out in the talk or behind it
+  pub ends_early : (from : Seed) (e : Stop) → HaveEnded asking program entries inner (Err e) inner' → Follows answering (sum_plan from answers asking program entries) o after None
+  ends_early from e h = go e h
+    where
+      early : (end : End) (log : List Move) → loop.Talked (urls_talk asking program entries) inner end log inner' → Follows answering (sum_plan from answers asking program entries) o after None
+      early end log t =
+          (unfinished, log, answered_early (urls_talk asking program entries) answers inner inner' o end log link t beside.fresh beside.left answered beside.runs, refl)
+
+      go : (e : Stop) → HaveEnded asking program entries inner (Err e) inner' → Follows answering (sum_plan from answers asking program entries) o after None
+      go stop.Link h = early plans.faulted h.0 h.1
+      go stop.Memory h = early h.0 h.1 h.2
+
+  module _ (small : AreAddresses answers) (fits : length link.log ≤ MOST_MOVES) (ends : List UrlEnd) (all : HaveEnded asking program entries inner (Ok ends) inner') where
+    talk_log : link.log ≡ all.0
+    talk_log = same_log (urls_talk asking program entries) inner inner' whole all.0 link all.1 beside.fresh beside.left
+
+    low : n < last_count
+    low =
+        below_last all.0 MOST_MOVES n inner.dice inner'.dice beside.none beside.drew all.1.ends.drew
+        (subst (λ (log : List Move). length log ≤ MOST_MOVES) talk_log fits) (omega arith)
+
+    names : n ≡ length (firsts (turns_of all.0))
+    names = names_counted (urls_talk asking program entries) inner inner' all.0 n all.1 beside.none beside.drew low
+
+    ends_are : ends ≡ map (ended program answers asking.terms (turns_of all.0)) entries
+    ends_are =
+        ends_by_map answers asking.terms (turns_of all.0) small (subst (λ (log : List Move). IsAnswered answers (turns_of log)) talk_log answered)
+        program entries ends all.2
+
+    -- nobody waits any more, and what is said is the sum
+    pub ends_whole : (from : Seed) (made : Option plans.Output) → IsUnlessMemory (said (summary from n ends)) made → Follows answering (sum_plan from answers asking program entries) o after made
+    ends_whole from made says = (
+      whole,
+      all.0,
+      answered_whole (urls_talk asking program entries) answers inner inner' o all.0 link n all.1 beside.fresh beside.left answered beside.none beside.drew low beside.runs,
+      subst (λ (output : plans.Output). IsUnlessMemory output made)
+          (ap (λ (count : ℕ). said (summary from count ends)) names ∙ ap (λ (es : List UrlEnd). said (summary from (length (firsts (turns_of all.0))) es)) ends_are) says,
+    )
