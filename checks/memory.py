@@ -73,6 +73,7 @@ RUNS = {
     ),
     "check": ("check company.pac", contents("examples/company.printed"), 0),
     "ask": ("ask build.example.net --server", b"address 10.1.2.3\n", 0),
+    "generate": ("generate 1 3", b"seed 1 sites 3\nurls 3 runs 9 names 6\ndirect 1 proxy 1 socks 1\n", 0),
     "no words": ("", b"usage: pac resolve|map|check|ask|generate ARGUMENTS\n", 2),
 }
 TOLD = re.compile(rb"(\d+) allocations, (\d+) refused\n")
