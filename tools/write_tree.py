@@ -1,16 +1,19 @@
 #!/usr/bin/env python3
-"""Writes the size, the code and the view of the trees of scripts from their definitions.
+"""Writes the size, the code and the view of the trees of scripts, and the walks of a law, from their definitions.
 
 It reads crates/js_tree/specs/Tree.antt and writes Size.antt and Code.antt beside it; View.antt, the tree that the code's
-own structs and enums stand for, it writes from that file and from src/expression.rt and src/statement.rt together. Run it
-at the top of the repository after each change of a tree; with the word `--check` it writes nothing and ends with status 1
-where a file is not the one that it would write.
+own structs and enums stand for, it writes from that file and from src/expression.rt and src/statement.rt together. The
+walks over trees of js_law_right it writes too (tree_walks.py). Run it at the top of the repository after each change of
+a tree; with the word `--check` it writes nothing and ends with status 1 where a file is not the one that it would write.
 """
 import re
 import sys
 from pathlib import Path
 
+from tree_walks import walks
+
 SPECS = Path("crates/js_tree/specs")
+WALKS = Path("crates/js_law_right")
 SOURCES = Path("crates/js_tree/src")
 NOTE = "-- Written by tools/write_tree.py from Tree.antt: change that file, and run the script.\n"
 VIEW_NOTE = "-- Written by tools/write_tree.py from Tree.antt, src/expression.rt and src/statement.rt: change these, and run it.\n"
@@ -486,13 +489,15 @@ def view_imports(types, text):
 def main():
     types = read_trees((SPECS / "Tree.antt").read_text())
     files = {"Size.antt": write_size(types), "Code.antt": write_code(types), "View.antt": write_view(types)}
+    files = {SPECS / name: text for name, text in files.items()}
+    files |= {WALKS / name: text for name, text in walks(types, NOTE, imports(types)).items()}
     if sys.argv[1:] == ["--check"]:
-        stale = [name for name, text in files.items() if (SPECS / name).read_text() != text]
-        for name in stale:
-            print(f"{SPECS / name} is not what tools/write_tree.py writes")
+        stale = [path for path, text in files.items() if not path.is_file() or path.read_text() != text]
+        for path in stale:
+            print(f"{path} is not what tools/write_tree.py writes")
         sys.exit(1 if stale else 0)
-    for name, text in files.items():
-        (SPECS / name).write_text(text)
+    for path, text in files.items():
+        path.write_text(text)
 
 
 main()

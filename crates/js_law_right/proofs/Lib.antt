@@ -1,0 +1,6 @@
+mod Functions
+mod Keeps
+mod KeptTrees
+pub mod RightLaw
+mod Same
+mod SameTrees
