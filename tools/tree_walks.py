@@ -1,4 +1,4 @@
-"""The walks over trees of scripts in the crate js_law_right, written from the types of trees: see `walks`.
+"""The walks over trees of scripts in js_binding and js_law_right, written from the types of trees: see `walks`.
 
 A walk has an equation for each node, and all but the few that touch names, scopes and functions only go on to the
 parts. What is particular to those stands in the tables here; all else follows from the parts of a node.
@@ -246,7 +246,7 @@ use Rattle.std.proofs.Common.{{List, refl}}
 {trees}use Rattle.js_binding.specs.Scopes.{{Scope, bound_in}}
 use Rattle.js_binding.specs.Source.{{unbound}}
 {use("js_binding.specs.Resolved", ["around_function", "in_body", "in_handler", *resolved])}
-{use("js_law_right.specs.Numbered", numbered)}
+{use("js_binding.specs.Numbered", numbered)}
 {use("js_law_right.specs.Unbound", named(types, "_unbound"))}
 use Rattle.js_law_right.proofs.Same.{{Same, same_pure, same_then, same_number, same_placed, same_function}}
 
@@ -335,12 +335,12 @@ mutual
 
 
 def walks(types, note, trees):
-    """The files of js_law_right that are written: the path below its folder, and the text."""
+    """The files that are written: the path below the folder of all crates, and the text."""
     texts = {
-        "specs/EachIn.antt": write_each(types, trees),
-        "specs/Numbered.antt": write_numbered(types, trees),
-        "specs/Unbound.antt": write_unbound(types, trees),
-        "proofs/KeptTrees.antt": write_keeps(types, trees),
-        "proofs/SameTrees.antt": write_same(types, trees),
+        "js_law_right/specs/EachIn.antt": write_each(types, trees),
+        "js_binding/specs/Numbered.antt": write_numbered(types, trees),
+        "js_law_right/specs/Unbound.antt": write_unbound(types, trees),
+        "js_law_right/proofs/KeptTrees.antt": write_keeps(types, trees),
+        "js_law_right/proofs/SameTrees.antt": write_same(types, trees),
     }
     return {name: note + text for name, text in texts.items()}

@@ -3,8 +3,9 @@
 
 It reads crates/js_tree/specs/Tree.antt and writes Size.antt and Code.antt beside it; View.antt, the tree that the code's
 own structs and enums stand for, it writes from that file and from src/expression.rt and src/statement.rt together. The
-walks over trees of js_law_right it writes too (tree_walks.py). Run it at the top of the repository after each change of
-a tree; with the word `--check` it writes nothing and ends with status 1 where a file is not the one that it would write.
+walks over trees of js_binding and js_law_right it writes too (tree_walks.py). Run it at the top of the repository after
+each change of a tree; with the word `--check` it writes nothing and ends with status 1 where a file is not the one that
+it would write.
 """
 import re
 import sys
@@ -13,7 +14,7 @@ from pathlib import Path
 from tree_walks import walks
 
 SPECS = Path("crates/js_tree/specs")
-WALKS = Path("crates/js_law_right")
+CRATES = Path("crates")
 SOURCES = Path("crates/js_tree/src")
 NOTE = "-- Written by tools/write_tree.py from Tree.antt: change that file, and run the script.\n"
 VIEW_NOTE = "-- Written by tools/write_tree.py from Tree.antt, src/expression.rt and src/statement.rt: change these, and run it.\n"
@@ -490,7 +491,7 @@ def main():
     types = read_trees((SPECS / "Tree.antt").read_text())
     files = {"Size.antt": write_size(types), "Code.antt": write_code(types), "View.antt": write_view(types)}
     files = {SPECS / name: text for name, text in files.items()}
-    files |= {WALKS / name: text for name, text in walks(types, NOTE, imports(types)).items()}
+    files |= {CRATES / name: text for name, text in walks(types, NOTE, imports(types)).items()}
     if sys.argv[1:] == ["--check"]:
         stale = [path for path, text in files.items() if not path.is_file() or path.read_text() != text]
         for path in stale:

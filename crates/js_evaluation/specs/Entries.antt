@@ -7,7 +7,7 @@ use Rattle.js_tree.specs.declared.place.Place.{Place}
 use Rattle.js_tree.specs.declared.bound.BoundName.{BoundName}
 use Rattle.js_tree.specs.Tree.{FunctionTree, a_function, DeclareNumbered, Statements, no_statement, a_statement}
 use Rattle.js_binding.specs.Names.{arguments_name, functions_of, variables_of_all}
-use Rattle.js_binding.specs.Scopes.{place_of}
+use Rattle.js_binding.specs.Scopes.{place_of, named}
 use Rattle.heap_values.specs.declared.found.Found.{Found}
 use Rattle.heap_values.specs.declared.found.Found.TheVariants as found
 use Rattle.heap_values.specs.declared.ids.Kind.{Kind}
@@ -25,19 +25,15 @@ use Rattle.heap_elements.specs.Properties.{property_at}
 use Rattle.object_heap.specs.Heap.{object_at, kind_in, found_of}
 use Rattle.js_convert.specs.Operators.{is_object}
 use Rattle.run_trees.specs.Runs.{pure, reading, ◌>>=◌, ◌>>◌, returning}
-use Rattle.js_evaluation.specs.State.{Does, make, make_scope, define, write_slot, built_in_object, global_object, throw_type_error}
-use Rattle.js_evaluation.specs.Objects.{Context, get, write_name, closure, arity_of, global_id, elements_from}
+use Rattle.js_evaluation.specs.State.{Does, make, define, write_slot, built_in_object, global_object, throw_type_error}
+use Rattle.js_evaluation.specs.Objects.{Context, get, closure, arity_of, global_id, elements_from}
 use Rattle.js_evaluation.specs.NativeTable.{native_of}
 use Rattle.js_evaluation.specs.Natives.{native_outcome}
-use Rattle.js_evaluation.specs.Conversions.{Call}
+use Rattle.js_evaluation.specs.Scoping.{Scoping}
+use Rattle.js_evaluation.specs.Parts.{Within, call}
+use Rattle.js_evaluation.specs.Statements.{statements_from}
 
 -- ---- the names of a function's scope (10.5)
-
--- each parameter has its argument, or undefined; of two of one name the later one counts
-abbrev pub parameters_from : Context → Place → List BoundName → List Value → Does (Unit {0})
-parameters_from cx p [] vs = pure tt
-parameters_from cx p (x ∷ xs) [] = write_name cx x value.Undefined p >> parameters_from cx p xs []
-parameters_from cx p (x ∷ xs) (v ∷ vs) = write_name cx x v p >> parameters_from cx p xs vs
 
 -- the object of the arguments (10.6)
 abbrev pub arguments_object : Place → List Value → Does Value
@@ -62,107 +58,121 @@ abbrev pub arguments_if : Bool → ScopeId → Place → List (List ℕ) → Lis
 arguments_if true scope p names vs = pure tt
 arguments_if false scope p names vs = arguments_at scope p vs (place_of arguments_name names)
 
-module _ (functions : List FunctionTree) where
-  abbrev pub function_object : ℕ → ScopeId → Place → Does Value
-  function_object n scope p = closure n (arity_of (slice_get functions n)) scope p
+-- ---- function objects (13.2), and what `new` makes (13.2.2)
+
+abbrev pub function_object : List FunctionTree → ℕ → ScopeId → Place → Does Value
+function_object functions n scope p = closure n (arity_of (slice_get functions n)) scope p
+
+-- the prototype of what a function constructs
+abbrev pub made_from : Value → ObjectId
+made_from (value.Object id) = id
+made_from v = built_in_object built_in.ObjectPrototype
+
+-- an object that the function returns stands in the place of the one that was made
+abbrev pub object_or : Value → Value → Value
+object_or made v = if is_object v then v else made
+
+-- ---- the names of a script (10.5)
+
+abbrev pub is_left_out : Content → Bool
+is_left_out (content.LeftOut t) = true
+is_left_out (content.Value v) = false
+
+-- whether a global property that was there gives way to a function: one that can be deleted, a listed one, which
+-- can be written, and one that is left out
+abbrev pub gives_way : Property → Bool
+gives_way old = old.deletable || old.listed || is_left_out old.content
+
+-- the function is listed and can't be deleted; a property that doesn't give way refuses it
+abbrev pub declared_over : Option Property → List ℕ → Value → Place → Does (Unit {0})
+declared_over None name f p = define global_id name f true false p
+declared_over (Some old) name f p =
+    if gives_way old then define global_id name f true false p else throw_type_error (codes "not an object") p
+
+abbrev pub own_property : Option ObjectView → List ℕ → Option Property
+own_property None name = None
+own_property (Some o) name = property_at o.properties name
+
+abbrev pub declare_function : List ℕ → Value → Place → Does (Unit {0})
+declare_function name f p = reading (λ s. declared_over (own_property (object_at s.heap global_id) name) name f p)
+
+-- a variable is a property of the global object, unless it has one of that name, by itself or by its prototype
+abbrev pub declared_unless : Found → List ℕ → Place → Does (Unit {0})
+declared_unless found.Absent name p = define global_id name value.Undefined true false p
+declared_unless f name p = pure tt
+
+abbrev pub global_variables : Place → List (List ℕ) → Does (Unit {0})
+global_variables p [] = pure tt
+global_variables p (name ∷ names) = reading (λ s. declared_unless (found_of s.heap global_id name) name p) >> global_variables p names
+
+-- scoping: how the run has its scopes; functions: those of the script; go: what evaluation makes of the parts within
+module _ (scoping : Scoping) (functions : List FunctionTree) (go : Within) where
+  -- ---- the names of a function's scope (10.5)
+
+  -- each parameter has its argument, or undefined; of two of one name the later one counts
+  abbrev pub parameters_from : Context → Place → List BoundName → List Value → Does (Unit {0})
+  parameters_from cx p [] vs = pure tt
+  parameters_from cx p (x ∷ xs) [] = scoping.write_name cx x value.Undefined p >> parameters_from cx p xs []
+  parameters_from cx p (x ∷ xs) (v ∷ vs) = scoping.write_name cx x v p >> parameters_from cx p xs vs
 
   -- the functions that a body declares, in their order; each is made anew
   abbrev pub functions_from : Context → Place → Statements → Does (Unit {0})
   functions_from cx p no_statement = pure tt
   functions_from cx p (a_statement (DeclareNumbered q x n) ss) =
-      function_object n cx.scope p >>= (λ f. write_name cx x f p) >> functions_from cx p ss
+      function_object functions n cx.scope p >>= (λ f. scoping.write_name cx x f p) >> functions_from cx p ss
   functions_from cx p (a_statement s ss) = functions_from cx p ss
 
-  -- body: what the statements of a body do, in a context
-  module _ (body : Context → Statements → Does Value) where
-    -- ---- a function (13.2.1)
+  -- ---- a function (13.2.1)
 
-    -- its scope, the parameters, the functions, the object of the arguments, and then its body
-    abbrev pub entered_in : ScopeId → Value → List Value → Place → List BoundName → List (List ℕ) → Statements → Does Value
-    entered_in scope this vs p parameters names ss =
-        let cx : Context = record { scope = scope; this = this } in
-        parameters_from cx p parameters vs >> functions_from cx p ss
-        >> arguments_if (has_own_arguments parameters ss) scope p names vs
-        >> returning value.Undefined (body cx ss)
+  -- its scope, the parameters, the functions, the object of the arguments, and then its body
+  abbrev pub entered_in : ScopeId → Value → List Value → Place → List BoundName → List (List ℕ) → Statements → Does Value
+  entered_in scope this vs p parameters names ss =
+      let cx : Context = record { scope = scope; this = this } in
+      parameters_from cx p parameters vs >> functions_from cx p ss
+      >> arguments_if (has_own_arguments parameters ss) scope p names vs
+      >> returning value.Undefined (statements_from scoping functions go cx ss)
 
-    abbrev pub entered : ScopeId → Value → List Value → Place → Option FunctionTree → Does Value
-    entered around this vs p None = pure value.Undefined
-    entered around this vs p (Some (a_function own parameters names ss)) =
-        make_scope (length names) around p >>= (λ scope. entered_in scope this vs p parameters names ss)
+  abbrev pub entered_with : List (List ℕ) → ScopeId → Value → List Value → Place → FunctionTree → Does Value
+  entered_with names around this vs p (a_function own parameters given ss) =
+      scoping.make_scope (named names) around p >>= (λ scope. entered_in scope this vs p parameters names ss)
 
-    -- ---- a call (11.2.3)
+  abbrev pub entered : ScopeId → Value → List Value → Place → Option FunctionTree → Does Value
+  entered around this vs p None = pure value.Undefined
+  entered around this vs p (Some f) = entered_with (scoping.names_within f) around this vs p f
 
-    abbrev pub called_by : Call → Kind → Value → List Value → Place → Does Value
-    called_by call (kind.Function n around) this vs p = entered around this vs p (slice_get functions n)
-    called_by call (kind.Native n) this vs p = native_outcome call (native_of n) this vs p
-    called_by call k this vs p = pure value.Undefined
+  -- ---- a call (11.2.3)
 
-    unfoldable pub call_node : Call → ObjectId → Value → List Value → Place → Does Value
-    call_node call f this vs p = reading (λ s. called_by call (kind_in (object_at s.heap f)) this vs p)
+  abbrev pub called_by : Kind → Value → List Value → Place → Does Value
+  called_by (kind.Function n around) this vs p = entered around this vs p (slice_get functions n)
+  called_by (kind.Native n) this vs p = native_outcome (call go) (native_of n) this vs p
+  called_by k this vs p = pure value.Undefined
 
-    -- ---- `new` (13.2.2)
+  unfoldable pub call_node : ObjectId → Value → List Value → Place → Does Value
+  call_node f this vs p = reading (λ s. called_by (kind_in (object_at s.heap f)) this vs p)
 
-    -- the prototype of what a function constructs
-    abbrev pub made_from : Value → ObjectId
-    made_from (value.Object id) = id
-    made_from v = built_in_object built_in.ObjectPrototype
+  -- ---- `new` (13.2.2)
 
-    -- an object that the function returns stands in the place of the one that was made
-    abbrev pub object_or : Value → Value → Value
-    object_or made v = if is_object v then v else made
+  abbrev pub constructed_by : Kind → ObjectId → List Value → Place → Does Value
+  constructed_by (kind.Function n around) f vs p = do
+    prototype ← get (value.Object f) (codes "prototype") p
+    made ← make kind.Plain (Some (made_from prototype)) p
+    v ← entered around (value.Object made) vs p (slice_get functions n)
+    pure (object_or (value.Object made) v)
+  constructed_by (kind.Native n) f vs p = native_outcome (call go) (native_of n) value.Undefined vs p
+  constructed_by k f vs p = pure value.Undefined
 
-    abbrev pub constructed_by : Call → Kind → ObjectId → List Value → Place → Does Value
-    constructed_by call (kind.Function n around) f vs p = do
-      prototype ← get (value.Object f) (codes "prototype") p
-      made ← make kind.Plain (Some (made_from prototype)) p
-      v ← entered around (value.Object made) vs p (slice_get functions n)
-      pure (object_or (value.Object made) v)
-    constructed_by call (kind.Native n) f vs p = native_outcome call (native_of n) value.Undefined vs p
-    constructed_by call k f vs p = pure value.Undefined
+  unfoldable pub construct_node : ObjectId → List Value → Place → Does Value
+  construct_node f vs p = reading (λ s. constructed_by (kind_in (object_at s.heap f)) f vs p)
 
-    unfoldable pub construct_node : Call → ObjectId → List Value → Place → Does Value
-    construct_node call f vs p = reading (λ s. constructed_by call (kind_in (object_at s.heap f)) f vs p)
+  -- ---- the load of a script (10.5, 14)
 
-    -- ---- the load of a script (10.5, 14)
+  abbrev pub global_functions : Context → Place → Statements → Does (Unit {0})
+  global_functions cx p no_statement = pure tt
+  global_functions cx p (a_statement (DeclareNumbered q x n) ss) =
+      function_object functions n cx.scope p >>= (λ f. declare_function x.name f p) >> global_functions cx p ss
+  global_functions cx p (a_statement s ss) = global_functions cx p ss
 
-    abbrev pub is_left_out : Content → Bool
-    is_left_out (content.LeftOut t) = true
-    is_left_out (content.Value v) = false
-
-    -- whether a global property that was there gives way to a function: one that can be deleted, a listed one, which
-    -- can be written, and one that is left out
-    abbrev pub gives_way : Property → Bool
-    gives_way old = old.deletable || old.listed || is_left_out old.content
-
-    -- the function is listed and can't be deleted; a property that doesn't give way refuses it
-    abbrev pub declared_over : Option Property → List ℕ → Value → Place → Does (Unit {0})
-    declared_over None name f p = define global_id name f true false p
-    declared_over (Some old) name f p =
-        if gives_way old then define global_id name f true false p else throw_type_error (codes "not an object") p
-
-    abbrev pub own_property : Option ObjectView → List ℕ → Option Property
-    own_property None name = None
-    own_property (Some o) name = property_at o.properties name
-
-    abbrev pub declare_function : List ℕ → Value → Place → Does (Unit {0})
-    declare_function name f p = reading (λ s. declared_over (own_property (object_at s.heap global_id) name) name f p)
-
-    abbrev pub global_functions : Context → Place → Statements → Does (Unit {0})
-    global_functions cx p no_statement = pure tt
-    global_functions cx p (a_statement (DeclareNumbered q x n) ss) =
-        function_object n cx.scope p >>= (λ f. declare_function x.name f p) >> global_functions cx p ss
-    global_functions cx p (a_statement s ss) = global_functions cx p ss
-
-    -- a variable is a property of the global object, unless it has one of that name, by itself or by its prototype
-    abbrev pub declared_unless : Found → List ℕ → Place → Does (Unit {0})
-    declared_unless found.Absent name p = define global_id name value.Undefined true false p
-    declared_unless f name p = pure tt
-
-    abbrev pub global_variables : Place → List (List ℕ) → Does (Unit {0})
-    global_variables p [] = pure tt
-    global_variables p (name ∷ names) = reading (λ s. declared_unless (found_of s.heap global_id name) name p) >> global_variables p names
-
-    unfoldable pub load_node : ScopeId → Statements → Place → Does Value
-    load_node outer ss p =
-        let cx : Context = record { scope = outer; this = global_object } in
-        global_functions cx p ss >> global_variables p (variables_of_all ss) >> body cx ss
+  unfoldable pub load_node : ScopeId → Statements → Place → Does Value
+  load_node outer ss p =
+      let cx : Context = record { scope = outer; this = global_object } in
+      global_functions cx p ss >> global_variables p (variables_of_all ss) >> statements_from scoping functions go cx ss

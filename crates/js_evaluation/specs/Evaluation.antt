@@ -1,7 +1,8 @@
--- Evaluation: what each part of a script does, with so much room left in depth; and one run of a script.
+-- Evaluation: what each part of a script does, with so much room left in depth; and one run of a script, by its names.
 use Rattle.std.specs.Prelude.{ℕ, zero, suc, List, [], ◌∷◌, take, Option, Some, None, Ok, Err, if◌then◌else◌, codes}
 use Rattle.js_tree.specs.declared.place.Place.{Place}
-use Rattle.js_tree.specs.Tree.{ExpressionTree, FunctionTree, StatementTree, Statements}
+use Rattle.js_tree.specs.Tree.{FunctionTree, StatementTree, Statements}
+use Rattle.js_binding.specs.Numbered.{numbered_script}
 use Rattle.heap_values.specs.declared.found.Found.{Found}
 use Rattle.heap_values.specs.declared.found.Found.TheVariants as found
 use Rattle.heap_values.specs.declared.ids.Kind.{Kind}
@@ -14,7 +15,7 @@ use Rattle.heap_values.specs.Views.{HeapView}
 use Rattle.object_heap.specs.Fresh.{fresh_heap}
 use Rattle.object_heap.specs.Heap.{object_at, kind_in, found_of}
 use Rattle.js_convert.specs.Texts.{text_of}
-use Rattle.js_host.specs.Answers.{Name, AnswerMap}
+use Rattle.js_host.specs.Answers.{AnswerMap}
 use Rattle.js_host.specs.Seen.{kept_alerts}
 use Rattle.run_trees.specs.declared.abrupt.Abrupt.TheVariants as ending
 use Rattle.run_trees.specs.RunTree.{RunTree, Done}
@@ -24,74 +25,36 @@ use Rattle.pac_calendar.specs.declared.moment.Moments.{Moments}
 use Rattle.pac_functions.specs.declared.call.PacSettings.{PacSettings}
 use Rattle.js_evaluation.specs.declared.fault.Fault.{Fault}
 use Rattle.js_evaluation.specs.declared.fault.FaultCode.TheVariants as code
-use Rattle.js_evaluation.specs.State.{RunState, RunEnd, Comes, Faults, Does, fault, charge, test_text, global_object}
-use Rattle.js_evaluation.specs.Objects.{Context, global_id, is_callable}
-use Rattle.js_evaluation.specs.Conversions.{Call}
+use Rattle.js_evaluation.specs.State.{RunState, nameless, RunEnd, Comes, Faults, Does, fault, charge, test_text, global_object}
+use Rattle.js_evaluation.specs.Objects.{global_id, is_callable}
+use Rattle.js_evaluation.specs.Scoping.{Scoping, by_names, by_slots}
+use Rattle.js_evaluation.specs.Parts.{Part, expression_part, target_part, statement_part, call_part, construct_part, load_part, Within, part_place, outside}
 use Rattle.js_evaluation.specs.NativeWork.{class_of_kind}
 use Rattle.js_evaluation.specs.Natives.{joined}
-use Rattle.js_evaluation.specs.Expressions.{expression_place, expression_node, target_node, reference, write}
-use Rattle.js_evaluation.specs.Statements.{statement_place, statement_node, statements_from}
+use Rattle.js_evaluation.specs.Expressions.{expression_node, target_node}
+use Rattle.js_evaluation.specs.Statements.{statement_node}
 use Rattle.js_evaluation.specs.Entries.{call_node, construct_node, load_node}
 use Rattle.js_evaluation.specs.declared.limits.TheConstants.{MOST_OPEN}
 use Rattle.js_host.specs.declared.limits.TheConstants.{MOST_UNITS}
 
--- What can be open: an expression, an expression as a target, a statement, a call, a construction, the load of a
--- script.
-pub data Part : Type 0 where
-  expression_part : Context → ExpressionTree → Part
-  target_part : Context → ExpressionTree → Part
-  statement_part : Context → StatementTree → Part
-  call_part : ObjectId → Value → List Value → Place → Part
-  construct_part : ObjectId → List Value → Place → Part
-  load_part : ScopeId → Statements → Part
+-- ---- one part, by what is made of the parts within
 
--- what arises outside every node has this place
-abbrev pub outside : Place
-outside = record { line = 0; column = 0 }
-
-abbrev pub part_place : Part → Place
-part_place (expression_part cx e) = expression_place e
-part_place (target_part cx e) = expression_place e
-part_place (statement_part cx s) = statement_place s
-part_place (call_part f this vs p) = p
-part_place (construct_part f vs p) = p
-part_place (load_part outer ss) = outside
-
--- ---- one part, by what it makes of the parts within (go)
-
-module _ (functions : List FunctionTree) (go : Part → Does Value) where
-  abbrev pub visit : Context → ExpressionTree → Does Value
-  visit cx e = go (expression_part cx e)
-
-  abbrev pub visit_target : Context → ExpressionTree → Does Value
-  visit_target cx e = go (target_part cx e)
-
-  abbrev pub execute : Context → StatementTree → Does Value
-  execute cx s = go (statement_part cx s)
-
-  abbrev pub call : Call
-  call f this vs p = go (call_part f this vs p)
-
-  abbrev pub construct : ObjectId → List Value → Place → Does Value
-  construct f vs p = go (construct_part f vs p)
-
-  abbrev pub body : Context → Statements → Does Value
-  body cx ss = statements_from visit execute (reference functions visit visit_target call construct) write cx ss
-
+module _ (scoping : Scoping) (functions : List FunctionTree) (go : Within) where
   abbrev pub node : Part → Does Value
-  node (expression_part cx e) = expression_node functions visit visit_target call construct cx e
-  node (target_part cx e) = target_node functions visit visit_target call construct cx e
-  node (statement_part cx s) = statement_node visit execute (reference functions visit visit_target call construct) write cx s
-  node (call_part f this vs p) = call_node functions body call f this vs p
-  node (construct_part f vs p) = construct_node functions body call f vs p
-  node (load_part outer ss) = load_node functions body outer ss outside
+  node (expression_part cx e) = expression_node scoping functions go cx e
+  node (target_part cx e) = target_node scoping functions go cx e
+  node (statement_part cx s) = statement_node scoping functions go cx s
+  node (call_part f this vs p) = call_node scoping functions go f this vs p
+  node (construct_part f vs p) = construct_node scoping functions go f vs p
+  node (load_part outer ss) = load_node scoping functions go outer ss outside
 
 -- ---- with so many parts that may still be opened
 
 -- Each part is charged before it is done; past the most open parts it is a fault.
-unfoldable pub evaluation : List FunctionTree → ℕ → Part → Does Value
-evaluation functions zero part = charge (part_place part) >> fault code.TooDeep (part_place part)
-evaluation functions (suc room) part = charge (part_place part) >> node functions (evaluation functions room) part
+unfoldable pub evaluation : Scoping → List FunctionTree → ℕ → Within
+evaluation scoping functions zero part = charge (part_place part) >> fault code.TooDeep (part_place part)
+evaluation scoping functions (suc room) part =
+    charge (part_place part) >> node scoping functions (evaluation scoping functions room) part
 
 -- ---- a run
 
@@ -112,26 +75,37 @@ abbrev pub entry_of : HeapView → Found → Option ObjectId
 entry_of h (found.Value (value.Object id)) = if is_callable h (value.Object id) then Some id else None
 entry_of h f = None
 
--- the two texts are tested, and then the function is called
-abbrev pub called_for : List FunctionTree → Entry → Option ObjectId → Does Value
-called_for functions entry None = fault code.NoEntry outside
-called_for functions entry (Some f) =
-    test_text entry.url outside >> test_text entry.host outside
-    >> evaluation functions MOST_OPEN (call_part f global_object (value.Text entry.url ∷ value.Text entry.host ∷ []) outside)
+module _ (scoping : Scoping) (functions : List FunctionTree) (entry : Entry) where
+  -- the two texts are tested, and then the function is called
+  abbrev pub called_for : Option ObjectId → Does Value
+  called_for None = fault code.NoEntry outside
+  called_for (Some f) =
+      test_text entry.url outside >> test_text entry.host outside
+      >> evaluation scoping functions MOST_OPEN (call_part f global_object (value.Text entry.url ∷ value.Text entry.host ∷ []) outside)
 
--- the script is loaded, and then its function `FindProxyForURL` is called with the URL and the host
-abbrev pub script_run : Statements → List FunctionTree → Entry → Does Value
-script_run ss functions entry =
-    evaluation functions MOST_OPEN (load_part outer_scope ss)
-    >> reading (λ s. called_for functions entry (entry_of s.heap (found_of s.heap global_id (codes "FindProxyForURL"))))
+  -- the script is loaded, and then its function `FindProxyForURL` is called with the URL and the host
+  abbrev pub script_run : Statements → Does Value
+  script_run ss =
+      evaluation scoping functions MOST_OPEN (load_part outer_scope ss)
+      >> reading (λ s. called_for (entry_of s.heap (found_of s.heap global_id (codes "FindProxyForURL"))))
 
-abbrev pub first_state : Entry → RunState
-first_state entry =
-    record { heap = fresh_heap; fuel = entry.fuel; base = value.Undefined; now = entry.now; settings = entry.settings }
+-- the heap at the beginning of a run holds the built-in objects alone
+abbrev pub first_state : Scoping → Entry → RunState
+first_state scoping entry =
+    record { heap = fresh_heap; fuel = entry.fuel; base = value.Undefined; now = entry.now; settings = entry.settings; names = scoping.outermost }
 
--- a run as a tree of what it asks of its host; the heap at its beginning holds the built-in objects alone
+-- a run as a tree of what it asks of its host
+abbrev pub tree_by : Scoping → Statements → List FunctionTree → Entry → RunTree RunEnd
+tree_by scoping ss functions entry =
+    script_run scoping functions entry ss (λ result state. Done (Comes result (nameless state))) (first_state scoping entry)
+
+-- the run of a script by its names
+abbrev pub run_by_names : List StatementTree → Entry → RunTree RunEnd
+run_by_names script entry = tree_by by_names (numbered_script script).0 (numbered_script script).1 entry
+
+-- the run of a program whose names have their slots
 abbrev pub run_tree : Statements → List FunctionTree → Entry → RunTree RunEnd
-run_tree ss functions entry = script_run ss functions entry (λ result state. Done (Comes result state)) (first_state entry)
+run_tree ss functions entry = tree_by by_slots ss functions entry
 
 -- ---- how a run ended
 
@@ -174,11 +148,8 @@ pub record Outcome : Type 0 where
   pub ending : Ending
   pub alerts : List (List ℕ)
 
--- one uninterrupted run of a resolved script against a map of all names, and the names that it asks
-abbrev pub run_outcome : Statements → List FunctionTree → Entry → AnswerMap → Outcome
-run_outcome ss functions entry answers =
-    let run = whole_run answers (run_tree ss functions entry) in
-    record { ending = ending_of run.end; alerts = kept_alerts run.alerts }
-
-abbrev pub asked_names : Statements → List FunctionTree → Entry → AnswerMap → List Name
-asked_names ss functions entry answers = (whole_run answers (run_tree ss functions entry)).asked
+-- one uninterrupted run against a map of all names
+abbrev pub outcome_of : RunTree RunEnd → AnswerMap → Outcome
+outcome_of run answers =
+    let whole = whole_run answers run in
+    record { ending = ending_of whole.end; alerts = kept_alerts whole.alerts }

@@ -11,6 +11,7 @@ use Rattle.js_tree.specs.declared.operators.UnaryOp.TheVariants as unary
 use Rattle.js_tree.specs.declared.operators.UpdateForm.{UpdateForm}
 use Rattle.js_tree.specs.declared.operators.UpdateForm.TheVariants as form
 use Rattle.js_tree.specs.declared.operators.UpdateOp.{UpdateOp}
+use Rattle.js_binding.specs.Scopes.{itself}
 use Rattle.js_tree.specs.Tree.{ExpressionTree, Number, Characters, True, False, Null, This, Name, Array, Object, Function, Numbered, Suffixed, New, Update, Unary, Chain, Conditional, Assign, Comma, absent, present, Expressions, no_expression, an_expression, Items, no_item, an_item, Properties, no_property, a_property, SuffixTree, a_member, an_index, a_call, Suffixes, no_suffix, a_suffix, Operands, no_operand, an_operand, FunctionTree, a_function}
 use Rattle.js_grammar.specs.Operators.{is_target}
 use Rattle.heap_values.specs.declared.ids.Kind.{Kind}
@@ -23,42 +24,12 @@ use Rattle.object_heap.specs.Heap.{object_at, kind_in}
 use Rattle.js_convert.specs.Numeric.{truth_of}
 use Rattle.js_convert.specs.Texts.{text_of}
 use Rattle.run_trees.specs.Runs.{pure, reading, ◌>>=◌, ◌>>◌}
-use Rattle.js_evaluation.specs.State.{Does, charge, make, make_scope, define, write_slot, test_text, built_in_object, global_object, set_base, the_base, throw_type_error, unsupported}
-use Rattle.js_evaluation.specs.Objects.{Context, get, put, test_base, delete_property, delete_bound, read_name, read_or_undefined, write_name, closure, arity_of}
-use Rattle.js_evaluation.specs.Conversions.{Call, call_value, text_methods, to_primitive, to_number, to_bits, binary, stepped, assigned_by, type_text}
+use Rattle.js_evaluation.specs.State.{Does, charge, make, define, write_slot, test_text, built_in_object, global_object, set_base, the_base, throw_type_error, unsupported}
+use Rattle.js_evaluation.specs.Objects.{Context, get, put, test_base, delete_property, closure, arity_of}
+use Rattle.js_evaluation.specs.Scoping.{Scoping}
+use Rattle.js_evaluation.specs.Parts.{Within, visit, visit_target, call, construct, expression_place, suffix_place, last_place}
+use Rattle.js_evaluation.specs.Conversions.{call_value, text_methods, to_primitive, to_number, to_bits, binary, stepped, assigned_by, type_text}
 use Rattle.js_evaluation.specs.NativeTable.{constructs, native_of, native_name}
-
--- ---- places
-
-abbrev pub expression_place : ExpressionTree → Place
-expression_place (Number p n) = p
-expression_place (Characters p x) = p
-expression_place (True p) = p
-expression_place (False p) = p
-expression_place (Null p) = p
-expression_place (This p) = p
-expression_place (Name p x) = p
-expression_place (Array p all) = p
-expression_place (Object p all) = p
-expression_place (Function p f) = p
-expression_place (Numbered p n) = p
-expression_place (Suffixed p e all) = p
-expression_place (New p e all) = p
-expression_place (Update p f o e) = p
-expression_place (Unary p o e) = p
-expression_place (Chain p e all) = p
-expression_place (Conditional p e a b) = p
-expression_place (Assign p e o v) = p
-expression_place (Comma p all) = p
-
-abbrev pub suffix_place : SuffixTree → Place
-suffix_place (a_member p x) = p
-suffix_place (an_index p e) = p
-suffix_place (a_call p es) = p
-
-abbrev pub last_place : Place → Suffixes → Place
-last_place p no_suffix = p
-last_place p (a_suffix s ss) = last_place (suffix_place s) ss
 
 -- ---- references (8.7)
 
@@ -73,33 +44,51 @@ referred (Name p x) key base = to_name p x
 referred (Suffixed p e ss) key base = to_property (last_place p ss) base (text_of key)
 referred e key base = to_property (expression_place e) base (text_of key)
 
-abbrev pub read : Context → Reference → Does Value
-read cx (to_name p x) = read_name cx x p
-read cx (to_property p base key) = get base key p
+abbrev pub read : Scoping → Context → Reference → Does Value
+read scoping cx (to_name p x) = scoping.read_name cx x p
+read scoping cx (to_property p base key) = get base key p
 
-abbrev pub write : Context → Reference → Value → Place → Does (Unit {0})
-write cx (to_name p x) v place = write_name cx x v place
-write cx (to_property p base key) v place = put base key v place
+abbrev pub write : Scoping → Context → Reference → Value → Place → Does (Unit {0})
+write scoping cx (to_name p x) v place = scoping.write_name cx x v place
+write scoping cx (to_property p base key) v place = put base key v place
 
--- What evaluation visits: an expression, or an expression as the target of a write, by code in a context.
-module _ (functions : List FunctionTree) (visit target : Context → ExpressionTree → Does Value) (call : Call) (construct : ObjectId → List Value → Place → Does Value) where
+-- ---- what visits no part
+
+-- an index as a name
+abbrev pub index_name : ℕ → List ℕ
+index_name i = decimal i
+
+-- holes at the end count in the length (11.1.4)
+abbrev pub end_of_array : Place → ObjectId → ℕ → Bool → Does Value
+end_of_array p array count true = put (value.Object array) (codes "length") (value.Number (pos count)) p >> pure (value.Object array)
+end_of_array p array count false = pure (value.Object array)
+
+abbrev pub text_literal : Place → List ℕ → Does Value
+text_literal p t = test_text t p >> pure (value.Text t)
+
+-- The `this` of a call of an expression as it stands: the base of the reference that it is, where it is one (11.2.3).
+-- Brackets around it change nothing (11.1.6).
+abbrev pub this_behind : ExpressionTree → Does Value
+this_behind (Suffixed p e ss) = the_base
+this_behind e = pure global_object
+
+abbrev pub not_a_constructor : {A : Type 0} → Place → Does A
+not_a_constructor p = throw_type_error (codes "not a constructor") p
+
+abbrev pub given_by : UpdateForm → Value → Value → Value
+given_by form.Prefix old new = new
+given_by form.Postfix old new = old
+
+-- scoping: how the run has its scopes; functions: those of the script; go: what evaluation makes of the parts within
+module _ (scoping : Scoping) (functions : List FunctionTree) (go : Within) where
   -- ---- literals (11.1)
-
-  -- an index as a name
-  abbrev pub index_name : ℕ → List ℕ
-  index_name i = decimal i
-
-  -- holes at the end count in the length (11.1.4)
-  abbrev pub end_of_array : Place → ObjectId → ℕ → Bool → Does Value
-  end_of_array p array count true = put (value.Object array) (codes "length") (value.Number (pos count)) p >> pure (value.Object array)
-  end_of_array p array count false = pure (value.Object array)
 
   -- so many items stand in the array already; hole: the last of them is one
   abbrev pub items_from : Context → Place → ObjectId → ℕ → Bool → Items → Does Value
   items_from cx p array count hole no_item = end_of_array p array count hole
   items_from cx p array count hole (an_item absent rest) = items_from cx p array (count + 1) true rest
   items_from cx p array count hole (an_item (present e) rest) =
-      visit cx e >>= (λ v. define array (index_name count) v true true p >> items_from cx p array (count + 1) false rest)
+      visit go cx e >>= (λ v. define array (index_name count) v true true p >> items_from cx p array (count + 1) false rest)
 
   abbrev pub array_literal : Context → Place → Items → Does Value
   array_literal cx p items = make kind.Array (Some (built_in_object built_in.ArrayPrototype)) p >>= (λ array. items_from cx p array 0 false items)
@@ -107,7 +96,7 @@ module _ (functions : List FunctionTree) (visit target : Context → ExpressionT
   abbrev pub properties_from : Context → Place → ObjectId → Properties → Does Value
   properties_from cx p object no_property = pure (value.Object object)
   properties_from cx p object (a_property name e rest) =
-      visit cx e >>= (λ v. define object name v true true p >> properties_from cx p object rest)
+      visit go cx e >>= (λ v. define object name v true true p >> properties_from cx p object rest)
 
   abbrev pub object_literal : Context → Place → Properties → Does Value
   object_literal cx p properties = make kind.Plain (Some (built_in_object built_in.ObjectPrototype)) p >>= (λ object. properties_from cx p object properties)
@@ -115,7 +104,7 @@ module _ (functions : List FunctionTree) (visit target : Context → ExpressionT
   -- A function expression with a name of its own has a scope for it (13).
   abbrev pub function_value_of : Context → Place → ℕ → Option FunctionTree → Does Value
   function_value_of cx p n (Some (a_function (Some x) parameters names body)) = do
-    scope ← make_scope 1 cx.scope p
+    scope ← scoping.make_scope (itself x.name) cx.scope p
     f ← closure n (arity_of (slice_get functions n)) scope p
     _named ← write_slot scope 0 f
     pure f
@@ -124,39 +113,30 @@ module _ (functions : List FunctionTree) (visit target : Context → ExpressionT
   abbrev pub function_value : Context → Place → ℕ → Does Value
   function_value cx p n = function_value_of cx p n (slice_get functions n)
 
-  abbrev pub text_literal : Place → List ℕ → Does Value
-  text_literal p t = test_text t p >> pure (value.Text t)
-
   -- ---- members, indexes and calls (11.2)
 
   abbrev pub arguments_from : Context → List Value → Expressions → Does (List Value)
   arguments_from cx done no_expression = pure done
-  arguments_from cx done (an_expression e es) = visit cx e >>= (λ v. arguments_from cx (done ++ v ∷ []) es)
+  arguments_from cx done (an_expression e es) = visit go cx e >>= (λ v. arguments_from cx (done ++ v ∷ []) es)
 
   -- the index of a value: the expression, the test of the base, and the key, a primitive value whose text is the name
   abbrev pub key_of : Context → Value → ExpressionTree → Place → Does Value
-  key_of cx base e p = visit cx e >>= (λ v. test_base base p >> to_primitive call text_methods v p)
+  key_of cx base e p = visit go cx e >>= (λ v. test_base base p >> to_primitive (call go) text_methods v p)
 
   -- what a suffix gives of a value, beside the value that a call behind it has as its `this`; the first of the two that
   -- are handed in is the `this` of a call
   abbrev pub suffix_at : Context → Value → Value → SuffixTree → Does (Value × Value)
   suffix_at cx this v (a_member p name) = test_base v p >> get v name p >>= (λ w. pure (v, w))
   suffix_at cx this v (an_index p e) = key_of cx v e p >>= (λ key. get v (text_of key) p >>= (λ w. pure (v, w)))
-  suffix_at cx this v (a_call p es) = arguments_from cx [] es >>= (λ vs. call_value call v this vs p >>= (λ w. pure (global_object, w)))
+  suffix_at cx this v (a_call p es) = arguments_from cx [] es >>= (λ vs. call_value (call go) v this vs p >>= (λ w. pure (global_object, w)))
 
   -- each suffix is charged where it is applied; the base of the last one stays
   abbrev pub suffixes_from : Context → Value → Value → Suffixes → Does Value
   suffixes_from cx this v no_suffix = set_base this >> pure v
   suffixes_from cx this v (a_suffix s ss) = charge (suffix_place s) >> suffix_at cx this v s >>= (λ x. suffixes_from cx x.0 x.1 ss)
 
-  -- The `this` of a call of an expression as it stands: the base of the reference that it is, where it is one (11.2.3).
-  -- Brackets around it change nothing (11.1.6).
-  abbrev pub this_behind : ExpressionTree → Does Value
-  this_behind (Suffixed p e ss) = the_base
-  this_behind e = pure global_object
-
   abbrev pub suffixed : Context → ExpressionTree → Suffixes → Does Value
-  suffixed cx first ss = visit cx first >>= (λ v. this_behind first >>= (λ this. suffixes_from cx this v ss))
+  suffixed cx first ss = visit go cx first >>= (λ v. this_behind first >>= (λ this. suffixes_from cx this v ss))
 
   -- ---- targets of writes
 
@@ -174,20 +154,17 @@ module _ (functions : List FunctionTree) (visit target : Context → ExpressionT
 
   -- An expression as a target: it is evaluated up to its reference, and isn't read.
   abbrev pub target_node : Context → ExpressionTree → Does Value
-  target_node cx (Suffixed p first ss) = visit cx first >>= (λ v. this_behind first >>= (λ this. target_suffixes cx this v ss))
+  target_node cx (Suffixed p first ss) = visit go cx first >>= (λ v. this_behind first >>= (λ this. target_suffixes cx this v ss))
   target_node cx e = pure value.Undefined
 
   abbrev pub reference : Context → ExpressionTree → Does Reference
-  reference cx e = target cx e >>= (λ key. the_base >>= (λ base. pure (referred e key base)))
+  reference cx e = visit_target go cx e >>= (λ key. the_base >>= (λ base. pure (referred e key base)))
 
   -- ---- `new` (11.2.2)
 
-  abbrev pub not_a_constructor : {A : Type 0} → Place → Does A
-  not_a_constructor p = throw_type_error (codes "not a constructor") p
-
   abbrev pub constructed_by : Kind → ObjectId → List Value → Place → Does Value
-  constructed_by (kind.Function f scope) id vs p = construct id vs p
-  constructed_by (kind.Native n) id vs p = if constructs (native_of n) then construct id vs p else unsupported (native_name (native_of n)) p
+  constructed_by (kind.Function f scope) id vs p = construct go id vs p
+  constructed_by (kind.Native n) id vs p = if constructs (native_of n) then construct go id vs p else unsupported (native_name (native_of n)) p
   constructed_by k id vs p = not_a_constructor p
 
   abbrev pub constructed : Value → List Value → Place → Does Value
@@ -195,75 +172,71 @@ module _ (functions : List FunctionTree) (visit target : Context → ExpressionT
   constructed v vs p = not_a_constructor p
 
   abbrev pub new_value : Context → Place → ExpressionTree → Expressions → Does Value
-  new_value cx p callee es = visit cx callee >>= (λ f. arguments_from cx [] es >>= (λ vs. constructed f vs p))
+  new_value cx p callee es = visit go cx callee >>= (λ f. arguments_from cx [] es >>= (λ vs. constructed f vs p))
 
   -- ---- prefix and postfix operators (11.3, 11.4)
-
-  abbrev pub given_by : UpdateForm → Value → Value → Value
-  given_by form.Prefix old new = new
-  given_by form.Postfix old new = old
 
   abbrev pub updated : Context → Place → UpdateForm → UpdateOp → ExpressionTree → Does Value
   updated cx p f o e = do
     r ← reference cx e
-    old ← read cx r
-    n ← to_number call old p
-    m ← stepped call o n p
-    _written ← write cx r (value.Number m) p
+    old ← read scoping cx r
+    n ← to_number (call go) old p
+    m ← stepped (call go) o n p
+    _written ← write scoping cx r (value.Number m) p
     pure (given_by f (value.Number n) (value.Number m))
 
   -- an expression that is no reference has nothing that could be deleted (11.4.1)
   abbrev pub deleted : Context → Place → ExpressionTree → Does Value
-  deleted cx p (Name q x) = target cx (Name q x) >> delete_bound x.name x.bound p
+  deleted cx p (Name q x) = visit_target go cx (Name q x) >> scoping.delete_name cx x p
   deleted cx p e =
-      if is_target e then target cx e >>= (λ key. the_base >>= (λ base. delete_property base (text_of key) p))
-      else visit cx e >> pure (value.Bool true)
+      if is_target e then visit_target go cx e >>= (λ key. the_base >>= (λ base. delete_property base (text_of key) p))
+      else visit go cx e >> pure (value.Bool true)
 
   abbrev pub type_of : Context → ExpressionTree → Does Value
-  type_of cx (Name p x) = target cx (Name p x) >> read_or_undefined cx x p
-  type_of cx e = visit cx e
+  type_of cx (Name p x) = visit_target go cx (Name p x) >> scoping.read_or_undefined cx x p
+  type_of cx e = visit go cx e
 
   -- `~` (11.4.8)
   abbrev pub unary_value : Context → Place → UnaryOp → ExpressionTree → Does Value
   unary_value cx p unary.Delete e = deleted cx p e
-  unary_value cx p unary.Void e = visit cx e >> pure value.Undefined
+  unary_value cx p unary.Void e = visit go cx e >> pure value.Undefined
   unary_value cx p unary.TypeOf e = type_of cx e >>= (λ v. reading (λ s. pure (value.Text (type_text s.heap v))))
-  unary_value cx p unary.Plus e = visit cx e >>= (λ v. to_number call v p >>= (λ n. pure (value.Number n)))
-  unary_value cx p unary.Minus e = visit cx e >>= (λ v. to_number call v p >>= (λ n. pure (value.Number (neg_ℤ n))))
-  unary_value cx p unary.BitNot e = visit cx e >>= (λ v. to_bits call v p >>= (λ n. pure (value.Number (neg_ℤ n -ℤ pos 1))))
-  unary_value cx p unary.Not e = visit cx e >>= (λ v. pure (value.Bool (not (truth_of v))))
+  unary_value cx p unary.Plus e = visit go cx e >>= (λ v. to_number (call go) v p >>= (λ n. pure (value.Number n)))
+  unary_value cx p unary.Minus e = visit go cx e >>= (λ v. to_number (call go) v p >>= (λ n. pure (value.Number (neg_ℤ n))))
+  unary_value cx p unary.BitNot e = visit go cx e >>= (λ v. to_bits (call go) v p >>= (λ n. pure (value.Number (neg_ℤ n -ℤ pos 1))))
+  unary_value cx p unary.Not e = visit go cx e >>= (λ v. pure (value.Bool (not (truth_of v))))
 
   -- ---- binary operators (11.5 to 11.11)
 
   -- the operand of `&&` and `||` is evaluated only where the value before doesn't decide
   abbrev pub operand_by : Context → Place → BinaryOp → Value → ExpressionTree → Does Value
-  operand_by cx p op.Or v e = if truth_of v then pure v else visit cx e
-  operand_by cx p op.And v e = if truth_of v then visit cx e else pure v
-  operand_by cx p o v e = visit cx e >>= (λ w. binary call o v w p)
+  operand_by cx p op.Or v e = if truth_of v then pure v else visit go cx e
+  operand_by cx p op.And v e = if truth_of v then visit go cx e else pure v
+  operand_by cx p o v e = visit go cx e >>= (λ w. binary (call go) o v w p)
 
   abbrev pub operands_from : Context → Value → Operands → Does Value
   operands_from cx v no_operand = pure v
   operands_from cx v (an_operand p o e rest) = operand_by cx p o v e >>= (λ w. operands_from cx w rest)
 
   abbrev pub chain : Context → ExpressionTree → Operands → Does Value
-  chain cx first operands = visit cx first >>= (λ v. operands_from cx v operands)
+  chain cx first operands = visit go cx first >>= (λ v. operands_from cx v operands)
 
   -- ---- `?:`, assignment and commas (11.12 to 11.14)
 
   abbrev pub conditional : Context → ExpressionTree → ExpressionTree → ExpressionTree → Does Value
-  conditional cx c a b = visit cx c >>= (λ v. if truth_of v then visit cx a else visit cx b)
+  conditional cx c a b = visit go cx c >>= (λ v. if truth_of v then visit go cx a else visit go cx b)
 
   abbrev pub assigned_with : Context → Place → Reference → Option BinaryOp → ExpressionTree → Does Value
-  assigned_with cx p r None e = visit cx e
-  assigned_with cx p r (Some o) e = read cx r >>= (λ old. visit cx e >>= (λ v. binary call o old v p))
+  assigned_with cx p r None e = visit go cx e
+  assigned_with cx p r (Some o) e = read scoping cx r >>= (λ old. visit go cx e >>= (λ v. binary (call go) o old v p))
 
   abbrev pub assigned : Context → Place → ExpressionTree → AssignOp → ExpressionTree → Does Value
-  assigned cx p e o value = reference cx e >>= (λ r. assigned_with cx p r (assigned_by o) value >>= (λ v. write cx r v p >> pure v))
+  assigned cx p e o value = reference cx e >>= (λ r. assigned_with cx p r (assigned_by o) value >>= (λ v. write scoping cx r v p >> pure v))
 
   -- the value of the last of them
   abbrev pub comma_from : Context → Value → Expressions → Does Value
   comma_from cx v no_expression = pure v
-  comma_from cx v (an_expression e es) = visit cx e >>= (λ w. comma_from cx w es)
+  comma_from cx v (an_expression e es) = visit go cx e >>= (λ w. comma_from cx w es)
 
   -- ---- all of them
 
@@ -274,7 +247,7 @@ module _ (functions : List FunctionTree) (visit target : Context → ExpressionT
   expression_node cx (False p) = pure (value.Bool false)
   expression_node cx (Null p) = pure value.Null
   expression_node cx (This p) = pure cx.this
-  expression_node cx (Name p x) = read_name cx x p
+  expression_node cx (Name p x) = scoping.read_name cx x p
   expression_node cx (Array p items) = array_literal cx p items
   expression_node cx (Object p properties) = object_literal cx p properties
   expression_node cx (Function p f) = pure value.Undefined

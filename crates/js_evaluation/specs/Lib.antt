@@ -1,4 +1,6 @@
 pub mod BuiltInExamples
+pub mod ByNames
+pub mod BySlots
 pub mod Conversions
 pub mod CostExamples
 pub mod Entries
@@ -13,6 +15,8 @@ pub mod Natives
 pub mod Objects
 pub mod PacExamples
 pub mod PacNatives
+pub mod Parts
 pub mod RuleExamples
+pub mod Scoping
 pub mod State
 pub mod Statements

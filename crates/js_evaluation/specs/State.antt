@@ -1,6 +1,7 @@
 -- The state of a run, how a run ends, and the words that its rules are written in.
 use Rattle.std.specs.Prelude.{ℕ, ◌-◌, List, [], length, Bool, true, false, if◌then◌else◌, nat_lt, Option, Some, Result, Ok, Err, codes}
 use Rattle.js_tree.specs.declared.place.Place.{Place}
+use Rattle.js_binding.specs.Scopes.{Scope}
 use Rattle.heap_values.specs.declared.answer.HeapAnswer.{HeapAnswer}
 use Rattle.heap_values.specs.declared.answer.HeapAnswer.TheVariants as heap
 use Rattle.heap_values.specs.declared.ids.Kind.{Kind}
@@ -23,7 +24,7 @@ use Rattle.js_evaluation.specs.declared.fault.FaultCode.TheVariants as code
 use Rattle.js_evaluation.specs.declared.thrown.Thrown.{Thrown}
 use Rattle.run_trees.specs.declared.abrupt.Abrupt.{Abrupt}
 use Rattle.run_trees.specs.declared.abrupt.Abrupt.TheVariants as ending
-use Rattle.run_trees.specs.Runs.{Run, pure, abrupt, halt, reading, changing, ◌>>=◌, ◌>>◌}
+use Rattle.run_trees.specs.Runs.{Run, After, pure, abrupt, halt, reading, changing, ◌>>=◌, ◌>>◌}
 use Rattle.utf16_text.specs.declared.limits.TheConstants.{LONGEST_TEXT}
 
 -- What a run has of its own: its heap, the fuel that is left, and the base of the reference that was evaluated last
@@ -35,6 +36,12 @@ pub record RunState : Type 0 where
   pub base : Value
   pub now : Moments
   pub settings : PacSettings
+  -- the names of each scope of the heap, in the order in which they were made; none where names stand for slots
+  pub names : List Scope
+
+-- the state without the names of its scopes
+abbrev pub nameless : RunState → RunState
+nameless s = record s { names = [] }
 
 -- a throw, a return, a break or a continue
 abbrev pub Stop : Type 0
@@ -48,6 +55,10 @@ pub data RunEnd : Type 0 where
 -- a part of a run that gives an A
 abbrev pub Does : Type 0 → Type 0
 Does A = Run RunState Stop RunEnd A
+
+-- what comes after a part that gives a value
+abbrev pub AfterValue : Type 0
+AfterValue = After RunState Stop RunEnd Value
 
 -- ---- faults
 

@@ -7,7 +7,7 @@ use Rattle.js_binding.specs.Names.{names_of}
 use Rattle.js_binding.specs.Scopes.{Scope, bound_in}
 use Rattle.js_binding.specs.Source.{unbound}
 use Rattle.js_binding.specs.Resolved.{Placing, pure, ◌>>=◌, hollow, placed, numbered, around_function, in_body, function_in, statements_in}
-use Rattle.js_law_right.specs.Numbered.{function_numbered, statements_numbered}
+use Rattle.js_binding.specs.Numbered.{function_numbered, statements_numbered}
 use Rattle.js_law_right.specs.Unbound.{function_unbound, statements_unbound}
 
 -- what m makes and places, without its bounds, is what n does

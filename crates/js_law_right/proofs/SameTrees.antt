@@ -5,7 +5,7 @@ use Rattle.js_tree.specs.Tree.{ExpressionTree, Number, Characters, True, False, 
 use Rattle.js_binding.specs.Scopes.{Scope, bound_in}
 use Rattle.js_binding.specs.Source.{unbound}
 use Rattle.js_binding.specs.Resolved.{around_function, in_body, in_handler, expression_in, optional_in, expressions_in, items_in, properties_in, suffix_in, suffixes_in, operands_in, statement_in, otherwise_in, statements_in, declarations_in, branches_in, start_in, target_in, clauses_in, handler_in, function_in}
-use Rattle.js_law_right.specs.Numbered.{expression_numbered, optional_numbered, expressions_numbered, items_numbered, properties_numbered, suffix_numbered, suffixes_numbered, operands_numbered, statement_numbered, otherwise_numbered, statements_numbered, declarations_numbered, branches_numbered, start_numbered, target_numbered, clauses_numbered, handler_numbered, function_numbered}
+use Rattle.js_binding.specs.Numbered.{expression_numbered, optional_numbered, expressions_numbered, items_numbered, properties_numbered, suffix_numbered, suffixes_numbered, operands_numbered, statement_numbered, otherwise_numbered, statements_numbered, declarations_numbered, branches_numbered, start_numbered, target_numbered, clauses_numbered, handler_numbered, function_numbered}
 use Rattle.js_law_right.specs.Unbound.{expression_unbound, optional_unbound, expressions_unbound, items_unbound, properties_unbound, suffix_unbound, suffixes_unbound, operands_unbound, statement_unbound, otherwise_unbound, statements_unbound, declarations_unbound, branches_unbound, start_unbound, target_unbound, clauses_unbound, handler_unbound}
 use Rattle.js_law_right.proofs.Same.{Same, same_pure, same_then, same_number, same_placed, same_function}
 

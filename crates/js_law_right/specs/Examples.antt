@@ -9,7 +9,7 @@ use Rattle.js_tree.specs.Tree.{ExpressionTree, Name, Function, Numbered, Assign,
 use Rattle.js_binding.specs.Scopes.{named, itself, binding_of}
 use Rattle.js_binding.specs.Resolved.{resolved, expression_in, statement_in}
 use Rattle.js_law_right.specs.EachIn.{EachInStatements}
-use Rattle.js_law_right.specs.Numbered.{numbered_script, expression_numbered, statement_numbered}
+use Rattle.js_binding.specs.Numbered.{numbered_script, expression_numbered, statement_numbered}
 use Rattle.js_law_right.specs.Right.{Setting, setting_at, right, FunctionRight}
 
 abbrev here : Place

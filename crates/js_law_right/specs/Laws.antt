@@ -3,7 +3,7 @@ use Rattle.std.specs.Prelude.{◌≡◌, List}
 use Rattle.js_tree.specs.Tree.{StatementTree}
 use Rattle.js_binding.specs.Resolved.{resolved}
 use Rattle.js_law_right.specs.Anonymous.{DeclaredAreAnonymous}
-use Rattle.js_law_right.specs.Numbered.{numbered_script}
+use Rattle.js_binding.specs.Numbered.{numbered_script}
 use Rattle.js_law_right.specs.Right.{ProgramRight}
 use Rattle.js_law_right.specs.Unbound.{unbound_program}
 
