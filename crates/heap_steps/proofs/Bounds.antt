@@ -7,7 +7,8 @@ use Rattle.js_tree.specs.declared.bound.BoundName.{BoundName}
 use Rattle.heap_values.specs.declared.ids.ObjectId.{ObjectId}
 use Rattle.heap_values.specs.declared.ids.ScopeId.{ScopeId}
 use Rattle.heap_values.specs.Views.{HeapView}
-use Rattle.js_evaluation.specs.Objects.{Context, read_name, read_or_undefined_by, scope_out}
+use Rattle.js_evaluation.specs.BySlots.{read_name, read_or_undefined_by, scope_out}
+use Rattle.js_evaluation.specs.Objects.{Context}
 
 -- an object is known by its number
 pub by_number : (id : ObjectId) (n : ℕ) → id.0 ≡ n → id ≡ record { 0 = n }

@@ -33,7 +33,7 @@ pub record Beside : Type 0 where
 
 abbrev pub state_with : HeapView → ℕ → Beside → RunState
 state_with heap fuel beside =
-    record { heap = heap; fuel = fuel; base = beside.base; now = beside.now; settings = beside.settings }
+    record { heap = heap; fuel = fuel; base = beside.base; now = beside.now; settings = beside.settings; names = [] }
 
 abbrev pub plain_fault : FaultCode → Place → Fault
 plain_fault code place = record { code = code; place = place; detail = [] }

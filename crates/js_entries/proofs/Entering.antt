@@ -16,8 +16,10 @@ use Rattle.heap_values.specs.declared.value.Value.TheVariants as value
 use Rattle.heap_values.specs.Views.{HeapView}
 use Rattle.run_trees.specs.declared.abrupt.Abrupt.TheVariants as ending
 use Rattle.run_trees.specs.Runs.{pure, ◌>>=◌, ◌>>◌, returned_to, returning}
-use Rattle.js_evaluation.specs.State.{RunState, Stop, Does, built_in_object, make, make_scope}
-use Rattle.js_frames.specs.Rules.{AfterValue, Within}
+use Rattle.js_evaluation.specs.State.{RunState, Stop, Does, built_in_object, make, make_scope, AfterValue}
+use Rattle.js_evaluation.specs.Entries as rule
+use Rattle.js_evaluation.specs.Parts.{Within}
+use Rattle.js_evaluation.specs.Scoping.{by_slots}
 use Rattle.heap_steps.specs.declared.halt.Halt.{Halt}
 use Rattle.heap_steps.specs.declared.halt.Halt.TheVariants as halt
 use Rattle.heap_steps.specs.Works.{Works, state_with}
@@ -28,8 +30,7 @@ use Rattle.js_machine.specs.Moves.{Moves, at, functions_of, inner, left, run_sta
 use Rattle.js_evaluation.specs.Objects.{Context, get}
 use Rattle.js_frames.specs.Parts.{context_of}
 use Rattle.js_frames.specs.RestOf.{rest_of}
-use Rattle.js_evaluation.specs.Evaluation as evaluation
-use Rattle.js_frames.specs.Rules as rule
+use Rattle.js_evaluation.specs.Statements.{statements_from}
 use Rattle.js_machine.proofs.Steps.{with_heap, works_stops}
 use Rattle.heap_steps.proofs.Chains.{chained, stops}
 use Rattle.js_entries.specs.Names.{bound}
@@ -120,14 +121,14 @@ module _ (m : Machine) (made : Option ObjectId) (around : ScopeId) (this : Value
     pub scope_stops : (h : HeapView) (r : Result Now Halt) (e : Halt) → IsErrAnd r (λ x. x ≡ e) → Works (make_scope (length f.names) around p) m.state.heap (Err e) h
         → Moves (at m entered made (Some (function_of f)) around this vs p) m r (with_heap m h)
     scope_stops h r e i w = entry_stops made (make_scope (length f.names) around p)
-        (λ scope. rule.entered_in (functions_of m) (inner m) (context_of m.context) scope this vs p f.parameters f.names (statements_of f.body)) m h r e i w
+        (λ scope. rule.entered_in by_slots (functions_of m) (inner m) scope this vs p f.parameters f.names (statements_of f.body)) m h r e i w
 
     module _ (scope : ScopeId) (h h' : HeapView) (r : Result Now Halt) (made_scope : Works (make_scope (length f.names) around p) m.state.heap (Ok scope) h) where
       pub names_stop : (e : Halt) → IsErrAnd r (λ x. x ≡ e) → Works (bound (functions_of m) f scope this vs p) h (Err e) h'
           → Moves (at m entered made (Some (function_of f)) around this vs p) m r (with_heap m h')
       names_stop e i w = moves_from r (λ last. made_scope.is _ _ _) refl
           (entry_stops made (bound (functions_of m) f scope this vs p)
-          (λ _. returning value.Undefined (evaluation.body (functions_of m) (inner m) (record { scope = scope; this = this }) (statements_of f.body)))
+          (λ _. returning value.Undefined (statements_from by_slots (functions_of m) (inner m) (record { scope = scope; this = this }) (statements_of f.body)))
           (with_heap m h) h' r e i w)
 
       pub enters : (m' : Machine) → Works (bound (functions_of m) f scope this vs p) h (Ok tt) h'
@@ -143,7 +144,7 @@ module _ (m : Machine) (f : ObjectId) (n : ℕ) (around : ScopeId) (vs : List Va
   pub object_stops : (e : Halt) → IsErrAnd r (λ x. x ≡ e) → Works (make kind.Plain (Some (made_from prototype)) p) h (Err e) h'
       → Moves (at m constructed f n around vs p) m r (with_heap m h')
   object_stops e i w = moves_from r (λ last. read.is _ _ _) refl (works_stops (make kind.Plain (Some (made_from prototype)) p)
-      (λ made. rule.entered (functions_of m) (inner m) (context_of m.context) around (value.Object made) vs p (slice_get (functions_of m) n)
+      (λ made. rule.entered by_slots (functions_of m) (inner m) around (value.Object made) vs p (slice_get (functions_of m) n)
       >>= (λ v. pure (object_or made v))) (with_heap m h) h' r e i w)
 
   pub constructs : (made : ObjectId) (m' : Machine) → Works (make kind.Plain (Some (made_from prototype)) p) h (Ok made) h'

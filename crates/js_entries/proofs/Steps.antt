@@ -22,14 +22,16 @@ use Rattle.heap_values.specs.Views.{HeapView}
 use Rattle.heap_steps.specs.declared.halt.Halt.{Halt}
 use Rattle.heap_steps.specs.Works.{Works}
 use Rattle.heap_steps.proofs.Chains.{chained, stops}
+use Rattle.js_evaluation.specs.Scoping.{by_slots}
+use Rattle.js_evaluation.specs.BySlots.{write_name}
 use Rattle.js_evaluation.specs.State.{Does, built_in_object, define, make}
-use Rattle.js_evaluation.specs.Objects.{Context, write_name, elements_from}
+use Rattle.js_evaluation.specs.Objects.{Context, elements_from}
 use Rattle.js_binding.specs.Names.{arguments_name}
 use Rattle.js_binding.specs.Scopes.{place_of}
 use Rattle.js_evaluation.specs.Entries.{arguments_at, arguments_if, arguments_object, has_own_arguments, parameters_from, functions_from}
 use Rattle.js_evaluation.specs.Handed.{argument}
 use Rattle.js_entries.specs.Names.{arguments_in, bound, declared_in, function_bound, function_in, place_from}
-use Rattle.js_entries.specs.Globals.{Body, declare_variable, function_declared, functions_declared, variables_declared}
+use Rattle.js_entries.specs.Globals.{declare_variable, function_declared, functions_declared, variables_declared}
 
 -- ---- a part that is two, one after the other
 
@@ -44,60 +46,60 @@ module _ (part first rest : Does (Unit {0})) (same : part ≡ (first >> rest)) (
 
 -- a parameter has the first of the arguments that are left
 pub parameters_step : (cx : Context) (p : Place) (x : BoundName) (xs : List BoundName) (vs : List Value)
-    → parameters_from cx p (x ∷ xs) vs ≡ (write_name cx x (argument 0 vs) p >> parameters_from cx p xs (drop 1 vs))
+    → parameters_from by_slots cx p (x ∷ xs) vs ≡ (write_name cx x (argument 0 vs) p >> parameters_from by_slots cx p xs (drop 1 vs))
 parameters_step cx p x xs [] = refl
 parameters_step cx p x xs (v ∷ vs) = refl
 
 module _ (cx : Context) (p : Place) (x : BoundName) (xs : List BoundName) (vs : List Value) (h h' : HeapView) (r : Result (Unit {0}) Halt) where
-  pub parameter_then : (h'' : HeapView) → Works (write_name cx x (argument 0 vs) p) h (Ok tt) h' → Works (parameters_from cx p xs (drop 1 vs)) h' r h''
-      → Works (parameters_from cx p (x ∷ xs) vs) h r h''
+  pub parameter_then : (h'' : HeapView) → Works (write_name cx x (argument 0 vs) p) h (Ok tt) h' → Works (parameters_from by_slots cx p xs (drop 1 vs)) h' r h''
+      → Works (parameters_from by_slots cx p (x ∷ xs) vs) h r h''
   parameter_then h'' one two = first_then _ _ _ (parameters_step cx p x xs vs) h h' r h'' one two
 
-  pub parameter_stops : (e : Halt) → IsErrAnd r (λ y. y ≡ e) → Works (write_name cx x (argument 0 vs) p) h (Err e) h' → Works (parameters_from cx p (x ∷ xs) vs) h r h'
+  pub parameter_stops : (e : Halt) → IsErrAnd r (λ y. y ≡ e) → Works (write_name cx x (argument 0 vs) p) h (Err e) h' → Works (parameters_from by_slots cx p (x ∷ xs) vs) h r h'
   parameter_stops e i one = first_stops _ _ _ (parameters_step cx p x xs vs) h h' r e i one
 
 -- a statement that declares a function, and what declares none
 pub functions_step : (functions : List FunctionTree) (cx : Context) (p : Place) (s : StatementTree) (ss : Statements)
-    → functions_from functions cx p (a_statement s ss) ≡ (function_bound functions cx p (declared_in s) >> functions_from functions cx p ss)
+    → functions_from by_slots functions cx p (a_statement s ss) ≡ (function_bound functions cx p (declared_in s) >> functions_from by_slots functions cx p ss)
 functions_step functions cx p (DeclareNumbered q x n) ss = refl
 functions_step functions cx p s ss = refl
 
-pub globals_step : (functions : List FunctionTree) (body : Body) (s : StatementTree) (ss : Statements)
-    → functions_declared functions body (a_statement s ss) ≡ (function_declared functions body (declared_in s) >> functions_declared functions body ss)
-globals_step functions body (DeclareNumbered q x n) ss = refl
-globals_step functions body s ss = refl
+pub globals_step : (functions : List FunctionTree) (s : StatementTree) (ss : Statements)
+    → functions_declared functions (a_statement s ss) ≡ (function_declared functions (declared_in s) >> functions_declared functions ss)
+globals_step functions (DeclareNumbered q x n) ss = refl
+globals_step functions s ss = refl
 
 module _ (functions : List FunctionTree) (cx : Context) (p : Place) (s : StatementTree) (ss : Statements) (h h' : HeapView) (r : Result (Unit {0}) Halt) where
-  pub function_then : (h'' : HeapView) → Works (function_bound functions cx p (declared_in s)) h (Ok tt) h' → Works (functions_from functions cx p ss) h' r h''
-      → Works (functions_from functions cx p (a_statement s ss)) h r h''
+  pub function_then : (h'' : HeapView) → Works (function_bound functions cx p (declared_in s)) h (Ok tt) h' → Works (functions_from by_slots functions cx p ss) h' r h''
+      → Works (functions_from by_slots functions cx p (a_statement s ss)) h r h''
   function_then h'' one two = first_then _ _ _ (functions_step functions cx p s ss) h h' r h'' one two
 
   pub function_stops : (e : Halt) → IsErrAnd r (λ y. y ≡ e) → Works (function_bound functions cx p (declared_in s)) h (Err e) h'
-      → Works (functions_from functions cx p (a_statement s ss)) h r h'
+      → Works (functions_from by_slots functions cx p (a_statement s ss)) h r h'
   function_stops e i one = first_stops _ _ _ (functions_step functions cx p s ss) h h' r e i one
 
-module _ (functions : List FunctionTree) (body : Body) (s : StatementTree) (ss : Statements) (h h' : HeapView) (r : Result (Unit {0}) Halt) where
-  pub global_then : (h'' : HeapView) → Works (function_declared functions body (declared_in s)) h (Ok tt) h' → Works (functions_declared functions body ss) h' r h''
-      → Works (functions_declared functions body (a_statement s ss)) h r h''
-  global_then h'' one two = first_then _ _ _ (globals_step functions body s ss) h h' r h'' one two
+module _ (functions : List FunctionTree) (s : StatementTree) (ss : Statements) (h h' : HeapView) (r : Result (Unit {0}) Halt) where
+  pub global_then : (h'' : HeapView) → Works (function_declared functions (declared_in s)) h (Ok tt) h' → Works (functions_declared functions ss) h' r h''
+      → Works (functions_declared functions (a_statement s ss)) h r h''
+  global_then h'' one two = first_then _ _ _ (globals_step functions s ss) h h' r h'' one two
 
-  pub global_stops : (e : Halt) → IsErrAnd r (λ y. y ≡ e) → Works (function_declared functions body (declared_in s)) h (Err e) h'
-      → Works (functions_declared functions body (a_statement s ss)) h r h'
-  global_stops e i one = first_stops _ _ _ (globals_step functions body s ss) h h' r e i one
+  pub global_stops : (e : Halt) → IsErrAnd r (λ y. y ≡ e) → Works (function_declared functions (declared_in s)) h (Err e) h'
+      → Works (functions_declared functions (a_statement s ss)) h r h'
+  global_stops e i one = first_stops _ _ _ (globals_step functions s ss) h h' r e i one
 
 -- a variable of a script
-pub variables_step : (functions : List FunctionTree) (body : Body) (name : List ℕ) (names : List (List ℕ))
-    → variables_declared functions body (name ∷ names) ≡ (declare_variable functions body name >> variables_declared functions body names)
-variables_step functions body name names = refl
+pub variables_step : (name : List ℕ) (names : List (List ℕ))
+    → variables_declared (name ∷ names) ≡ (declare_variable name >> variables_declared names)
+variables_step name names = refl
 
-module _ (functions : List FunctionTree) (body : Body) (name : List ℕ) (names : List (List ℕ)) (h h' : HeapView) (r : Result (Unit {0}) Halt) where
-  pub variable_then : (h'' : HeapView) → Works (declare_variable functions body name) h (Ok tt) h' → Works (variables_declared functions body names) h' r h''
-      → Works (variables_declared functions body (name ∷ names)) h r h''
-  variable_then h'' one two = first_then _ _ _ (variables_step functions body name names) h h' r h'' one two
+module _ (name : List ℕ) (names : List (List ℕ)) (h h' : HeapView) (r : Result (Unit {0}) Halt) where
+  pub variable_then : (h'' : HeapView) → Works (declare_variable name) h (Ok tt) h' → Works (variables_declared names) h' r h''
+      → Works (variables_declared (name ∷ names)) h r h''
+  variable_then h'' one two = first_then _ _ _ (variables_step name names) h h' r h'' one two
 
-  pub variable_stops : (e : Halt) → IsErrAnd r (λ y. y ≡ e) → Works (declare_variable functions body name) h (Err e) h'
-      → Works (variables_declared functions body (name ∷ names)) h r h'
-  variable_stops e i one = first_stops _ _ _ (variables_step functions body name names) h h' r e i one
+  pub variable_stops : (e : Halt) → IsErrAnd r (λ y. y ≡ e) → Works (declare_variable name) h (Err e) h'
+      → Works (variables_declared (name ∷ names)) h r h'
+  variable_stops e i one = first_stops _ _ _ (variables_step name names) h h' r e i one
 
 -- ---- functions by their numbers
 
@@ -129,31 +131,31 @@ module _ (functions : List FunctionTree) (f : Function) (scope : ScopeId) (this 
   cx = record { scope = scope; this = this }
 
   abbrev parameters_part : Does (Unit {0})
-  parameters_part = parameters_from cx p f.parameters vs
+  parameters_part = parameters_from by_slots cx p f.parameters vs
 
   abbrev functions_part : Does (Unit {0})
-  functions_part = functions_from functions cx p (statements_of f.body)
+  functions_part = functions_from by_slots functions cx p (statements_of f.body)
 
   abbrev arguments_part : Does (Unit {0})
   arguments_part = arguments_if (has_own_arguments f.parameters (statements_of f.body)) scope p f.names vs
 
   pub bound_then : (h h' h'' k : HeapView) (r : Result (Unit {0}) Halt)
-      → Works (parameters_from (record { scope = scope; this = this }) p f.parameters vs) h (Ok tt) h'
-      → Works (functions_from functions (record { scope = scope; this = this }) p (statements_of f.body)) h' (Ok tt) h''
+      → Works (parameters_from by_slots (record { scope = scope; this = this }) p f.parameters vs) h (Ok tt) h'
+      → Works (functions_from by_slots functions (record { scope = scope; this = this }) p (statements_of f.body)) h' (Ok tt) h''
       → Works (arguments_if (has_own_arguments f.parameters (statements_of f.body)) scope p f.names vs) h'' r k
       → Works (bound functions f scope this vs p) h r k
   bound_then h h' h'' k r one two three =
       chained (parameters_part >> functions_part) (λ _. arguments_part) h h'' tt r k (chained parameters_part (λ _. functions_part) h h' tt (Ok tt) h'' one two) three
 
   pub functions_stop : (h h' h'' : HeapView) (r : Result (Unit {0}) Halt) (e : Halt) → IsErrAnd r (λ x. x ≡ e)
-      → Works (parameters_from (record { scope = scope; this = this }) p f.parameters vs) h (Ok tt) h'
-      → Works (functions_from functions (record { scope = scope; this = this }) p (statements_of f.body)) h' (Err e) h''
+      → Works (parameters_from by_slots (record { scope = scope; this = this }) p f.parameters vs) h (Ok tt) h'
+      → Works (functions_from by_slots functions (record { scope = scope; this = this }) p (statements_of f.body)) h' (Err e) h''
       → Works (bound functions f scope this vs p) h r h''
   functions_stop h h' h'' r e i one two =
       stops (parameters_part >> functions_part) (λ _. arguments_part) h h'' r e i (chained parameters_part (λ _. functions_part) h h' tt (Err e) h'' one two)
 
   pub parameters_stop : (h h' : HeapView) (r : Result (Unit {0}) Halt) (e : Halt) → IsErrAnd r (λ x. x ≡ e)
-      → Works (parameters_from (record { scope = scope; this = this }) p f.parameters vs) h (Err e) h'
+      → Works (parameters_from by_slots (record { scope = scope; this = this }) p f.parameters vs) h (Err e) h'
       → Works (bound functions f scope this vs p) h r h'
   parameters_stop h h' r e i one =
       stops (parameters_part >> functions_part) (λ _. arguments_part) h h' r e i (stops parameters_part (λ _. functions_part) h h' (Err e) e refl one)

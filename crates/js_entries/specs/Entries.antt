@@ -12,12 +12,12 @@ use Rattle.heap_values.specs.declared.value.Value.TheVariants as value
 use Rattle.js_convert.specs.Operators.{is_object}
 use Rattle.run_trees.specs.declared.abrupt.Abrupt.TheVariants as ending
 use Rattle.run_trees.specs.Runs.{pure, onward, returned_to}
-use Rattle.js_evaluation.specs.State.{Does, Stop, built_in_object}
+use Rattle.js_evaluation.specs.State.{Does, Stop, built_in_object, AfterValue}
 use Rattle.js_evaluation.specs.Objects.{Context}
 use Rattle.js_evaluation.specs.Entries as entry
-use Rattle.js_evaluation.specs.Evaluation as evaluation
-use Rattle.js_frames.specs.Rules as rule
-use Rattle.js_frames.specs.Rules.{Within, AfterValue}
+use Rattle.js_evaluation.specs.Statements as statement
+use Rattle.js_evaluation.specs.Parts.{Within}
+use Rattle.js_evaluation.specs.Scoping.{by_slots}
 
 -- an object that a function returns stands in the place of the one that it constructs
 abbrev pub object_or : ObjectId → Value → Value
@@ -55,21 +55,21 @@ made_from v = built_in_object built_in.ObjectPrototype
 module _ (functions : List FunctionTree) (go : Within) (cx : Context) where
   -- the statements of a body
   abbrev pub body : Option ObjectId → Statements → Does Value
-  body made ss = λ after. rule.statements_from functions go cx ss (returned_to value.Undefined (given_to made after))
+  body made ss = λ after. statement.statements_from by_slots functions go cx ss (returned_to value.Undefined (given_to made after))
 
   -- a function is entered
   abbrev pub entered : Option ObjectId → Option FunctionTree → ScopeId → Value → List Value → Place → Does Value
-  entered made f around this vs p = λ after. rule.entered functions go cx around this vs p f (given_to made after)
+  entered made f around this vs p = λ after. entry.entered by_slots functions go around this vs p f (given_to made after)
 
   -- the function of a number
   abbrev pub entered_by : Option ObjectId → ℕ → ScopeId → Value → List Value → Place → Does Value
   entered_by made n around this vs p = entered made (slice_get functions n) around this vs p
 
   abbrev pub called_by : Kind → Value → List Value → Place → Does Value
-  called_by = entry.called_by functions (evaluation.body functions go) (evaluation.call functions go)
+  called_by = entry.called_by by_slots functions go
 
   abbrev pub constructed_by : Kind → ObjectId → List Value → Place → Does Value
-  constructed_by = entry.constructed_by functions (evaluation.body functions go) (evaluation.call functions go)
+  constructed_by = entry.constructed_by by_slots functions go
 
   abbrev pub constructed : ObjectId → ℕ → ScopeId → List Value → Place → Does Value
   constructed f n around vs p = constructed_by (kind.Function n around) f vs p

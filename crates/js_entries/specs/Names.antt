@@ -9,15 +9,17 @@ use Rattle.js_tree.specs.View.{function_of}
 use Rattle.heap_values.specs.declared.ids.ScopeId.{ScopeId}
 use Rattle.heap_values.specs.declared.value.Value.{Value}
 use Rattle.run_trees.specs.Runs.{pure, ◌>>=◌, ◌>>◌}
+use Rattle.js_evaluation.specs.BySlots.{write_name}
+use Rattle.js_evaluation.specs.Scoping.{by_slots}
 use Rattle.js_evaluation.specs.State.{Does, write_slot}
-use Rattle.js_evaluation.specs.Objects.{Context, arity_of, write_name}
+use Rattle.js_evaluation.specs.Objects.{Context, arity_of}
 use Rattle.js_evaluation.specs.Entries.{parameters_from, functions_from, function_object, arguments_if, has_own_arguments, arguments_object}
 
 -- the parameters, the functions, and the object of the arguments
 abbrev pub bound : List FunctionTree → Function → ScopeId → Value → List Value → Place → Does (Unit {0})
 bound functions f scope this vs p =
     let cx : Context = record { scope = scope; this = this } in
-    parameters_from cx p f.parameters vs >> functions_from functions cx p (statements_of f.body)
+    parameters_from by_slots cx p f.parameters vs >> functions_from by_slots functions cx p (statements_of f.body)
     >> arguments_if (has_own_arguments f.parameters (statements_of f.body)) scope p f.names vs
 
 -- the function that a statement declares, by its name and number

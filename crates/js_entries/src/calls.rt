@@ -1,8 +1,9 @@
 // Calls and constructions (ECMA-262 5.1, sections 10.4.3, 11.2.3, 13.2.1 and 13.2.2).
 ghost use Rattle.std.specs.Prelude.{◌≡◌, IfOk, Some, length};
 ghost use Rattle.js_tree.specs.View.{function_of};
-ghost use Rattle.js_frames.specs.Rules as rule;
-ghost use Rattle.js_machine.specs.Moves.{Moves, at};
+ghost use Rattle.js_evaluation.specs.Entries as rule;
+ghost use Rattle.js_evaluation.specs.Scoping.{by_slots};
+ghost use Rattle.js_machine.specs.Moves.{Moves, at, anywhere};
 ghost use Rattle.js_entries.specs.Entries as spec;
 
 use crate::bodies::{enter_body, nothing};
@@ -26,7 +27,7 @@ pub fn call_node<'p>(
     arguments: List<Value>,
     place: Place,
 ) -> Step<'p>
-    ensures { Moves (at machine.old rule.call_node function this arguments place) machine.old result machine.new }
+    ensures { Moves (anywhere machine.old (rule.call_node by_slots) function this arguments place) machine.old result machine.new }
 {
     let kind = machine.state.heap.kind(function);
     called_by(machine, kind, this, arguments, place)
@@ -61,7 +62,7 @@ pub fn construct_node<'p>(
     arguments: List<Value>,
     place: Place,
 ) -> Step<'p>
-    ensures { Moves (at machine.old rule.construct_node function arguments place) machine.old result machine.new }
+    ensures { Moves (anywhere machine.old (rule.construct_node by_slots) function arguments place) machine.old result machine.new }
 {
     let kind = machine.state.heap.kind(function);
     constructed_by(machine, kind, function, arguments, place)

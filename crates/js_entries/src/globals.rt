@@ -1,15 +1,16 @@
 // The load of a script (ECMA-262 5.1, sections 10.5 and 14).
-ghost use Rattle.std.specs.Prelude.{◌≡◌, IfOk, List, map};
+ghost use Rattle.std.specs.Prelude.{◌≡◌, IfOk, map};
 ghost use Rattle.js_binding.specs.Names.{variables_of_all};
-ghost use Rattle.js_tree.specs.Tree.{FunctionTree, statements_of};
+ghost use Rattle.js_tree.specs.Tree.{statements_of};
 ghost use Rattle.js_tree.specs.View.{function_of};
 ghost use Rattle.object_heap.specs.Heap.{object_at};
-ghost use Rattle.js_evaluation.specs.Evaluation.{outer_scope, outside};
-ghost use Rattle.js_frames.specs.Rules as rule;
+ghost use Rattle.js_evaluation.specs.Parts.{outside};
+ghost use Rattle.js_evaluation.specs.Evaluation.{outer_scope};
+ghost use Rattle.js_evaluation.specs.Entries as rule;
+ghost use Rattle.js_evaluation.specs.Scoping.{by_slots};
 ghost use Rattle.heap_steps.specs.Works.{Works};
-ghost use Rattle.js_machine.specs.Moves.{Moves, at};
+ghost use Rattle.js_machine.specs.Moves.{Moves, anywhere};
 ghost use Rattle.js_entries.specs.Globals as spec;
-ghost use Rattle.js_entries.specs.Globals.{Body};
 ghost use Rattle.js_entries.specs.Names.{declared_in};
 
 use crate::names::{declared, function_object};
@@ -37,7 +38,7 @@ const DECLARED: Marks = Marks {
 /// object, and then its statements are executed in the outermost scope.
 #[tactic(auto, unfolding(js_evaluation::specs::Entries::load_node))]
 pub fn load_node<'p>(machine: &mut Machine<'p>, body: &'p [Statement]) -> Step<'p>
-    ensures { Moves (at machine.old rule.load_node outer_scope (statements_of body.entry.now) outside) machine.old result machine.new }
+    ensures { Moves (anywhere machine.old (rule.load_node by_slots) outer_scope (statements_of body.entry.now) outside) machine.old result machine.new }
 {
     let heap = &mut machine.state.heap;
     declare_functions(machine.alloc, heap, machine.functions, body)?;
@@ -55,7 +56,7 @@ fn declare_functions(
     functions: &[Function],
     body: &[Statement],
 ) -> Result<(), Halt>
-    ensures { (run : Body) → Works (spec.functions_declared (map function_of functions.now) run (statements_of body.now)) heap.old result heap.new }
+    ensures { Works (spec.functions_declared (map function_of functions.now) (statements_of body.now)) heap.old result heap.new }
 {
     let mut left = body;
     while let [statement, rest @ ..] = left {
@@ -72,7 +73,7 @@ fn declare_in(
     functions: &[Function],
     statement: &Statement,
 ) -> Result<(), Halt>
-    ensures { (run : Body) → Works (spec.function_declared (map function_of functions.now) run (declared_in statement.now)) heap.old result heap.new }
+    ensures { Works (spec.function_declared (map function_of functions.now) (declared_in statement.now)) heap.old result heap.new }
 {
     match declared(statement) {
         None => Ok(()),
@@ -91,7 +92,7 @@ fn declare_function(
     name: &Text,
     function: Value,
 ) -> Result<(), Halt>
-    ensures { (all : List FunctionTree) (run : Body) → Works (spec.declare_function all run name.now function) heap.old result heap.new }
+    ensures { Works (spec.declare_function name.now function) heap.old result heap.new }
 {
     let global = heap.built_in(BuiltIn::Global);
     if gives_way(alloc, heap, global, name)? {
@@ -104,7 +105,7 @@ fn declare_function(
 /// Whether what an object has under a name gives way to a function: one that can be deleted, a listed one, which can be
 /// written, and one that is left out. Memory comes for an array, which the global object is not.
 fn gives_way(alloc: Global, heap: &Heap, object: ObjectId, name: &Text) -> Result<bool, Memory>
-    ensures { (all : List FunctionTree) (run : Body) → IfOk result (λ gives. gives ≡ spec.gives_way_in all run (spec.own_property all run (object_at heap.now object) name.now)) }
+    ensures { IfOk result (λ gives. gives ≡ spec.gives_way_in (rule.own_property (object_at heap.now object) name.now)) }
 {
     match heap.own_marks(object, name) {
         None => Ok(true),
@@ -122,7 +123,7 @@ fn gives_way(alloc: Global, heap: &Heap, object: ObjectId, name: &Text) -> Resul
 
 /// Whether the property of an object is left out, where it has one of this name.
 fn is_left_out(alloc: Global, heap: &Heap, object: ObjectId, name: &Text) -> Result<bool, Memory>
-    ensures { (all : List FunctionTree) (run : Body) → IfOk result (λ is. is ≡ spec.is_left_out_in all run (spec.own_property all run (object_at heap.now object) name.now)) }
+    ensures { IfOk result (λ is. is ≡ spec.is_left_out_in (rule.own_property (object_at heap.now object) name.now)) }
 {
     match heap.kind(object) {
         Kind::Array => Err(Memory),
@@ -137,7 +138,7 @@ fn is_left_out(alloc: Global, heap: &Heap, object: ObjectId, name: &Text) -> Res
 /// The variables of a script become properties of the global object, each unless it has one of that name, by itself or
 /// by its prototype.
 fn declare_variables(alloc: Global, heap: &mut Heap, body: &[Statement]) -> Result<(), Halt>
-    ensures { (all : List FunctionTree) (run : Body) → Works (spec.variables_declared all run (variables_of_all (statements_of body.now))) heap.old result heap.new }
+    ensures { Works (spec.variables_declared (variables_of_all (statements_of body.now))) heap.old result heap.new }
 {
     let mut names = NameList::new(alloc);
     add_variables(alloc, body, &mut names)?;
@@ -145,7 +146,7 @@ fn declare_variables(alloc: Global, heap: &mut Heap, body: &[Statement]) -> Resu
 }
 
 fn declare_names(alloc: Global, heap: &mut Heap, names: &[Text]) -> Result<(), Halt>
-    ensures { (all : List FunctionTree) (run : Body) → Works (spec.variables_declared all run names.now) heap.old result heap.new }
+    ensures { Works (spec.variables_declared names.now) heap.old result heap.new }
 {
     let mut left = names;
     while let [name, rest @ ..] = left {
@@ -156,7 +157,7 @@ fn declare_names(alloc: Global, heap: &mut Heap, names: &[Text]) -> Result<(), H
 }
 
 fn declare_variable(alloc: Global, heap: &mut Heap, name: &Text) -> Result<(), Halt>
-    ensures { (all : List FunctionTree) (run : Body) → Works (spec.declare_variable all run name.now) heap.old result heap.new }
+    ensures { Works (spec.declare_variable name.now) heap.old result heap.new }
 {
     let global = heap.built_in(BuiltIn::Global);
     match heap.get(alloc, global, name)? {

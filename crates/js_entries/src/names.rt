@@ -4,6 +4,7 @@ ghost use Rattle.heap_values.specs.declared.value.Value.{Value};
 ghost use Rattle.js_tree.specs.Tree.{statements_of};
 ghost use Rattle.js_tree.specs.View.{function_of};
 ghost use Rattle.js_evaluation.specs.Entries as entry;
+ghost use Rattle.js_evaluation.specs.Scoping.{by_slots};
 ghost use Rattle.heap_steps.specs.Works.{Works};
 ghost use Rattle.js_entries.specs.Names as spec;
 
@@ -45,7 +46,7 @@ fn bind_parameters(
     arguments: &[Value],
     place: Place,
 ) -> Result<(), Halt>
-    ensures { (this : Value) → Works (entry.parameters_from (record { scope = scope; this = this }) place parameters.now arguments.now) heap.old result heap.new }
+    ensures { (this : Value) → Works (entry.parameters_from by_slots (record { scope = scope; this = this }) place parameters.now arguments.now) heap.old result heap.new }
 {
     let mut left = parameters;
     let mut values = arguments;
@@ -77,7 +78,7 @@ fn bind_functions(
     body: &[Statement],
     place: Place,
 ) -> Result<(), Halt>
-    ensures { (this : Value) → Works (entry.functions_from (map function_of functions.now) (record { scope = scope; this = this }) place (statements_of body.now)) heap.old result heap.new }
+    ensures { (this : Value) → Works (entry.functions_from by_slots (map function_of functions.now) (record { scope = scope; this = this }) place (statements_of body.now)) heap.old result heap.new }
 {
     let mut left = body;
     while let [statement, rest @ ..] = left {

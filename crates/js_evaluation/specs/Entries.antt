@@ -30,10 +30,26 @@ use Rattle.js_evaluation.specs.Objects.{Context, get, closure, arity_of, global_
 use Rattle.js_evaluation.specs.NativeTable.{native_of}
 use Rattle.js_evaluation.specs.Natives.{native_outcome}
 use Rattle.js_evaluation.specs.Scoping.{Scoping}
-use Rattle.js_evaluation.specs.Parts.{Within, call}
+use Rattle.js_evaluation.specs.Parts.{Within, calls}
 use Rattle.js_evaluation.specs.Statements.{statements_from}
 
 -- ---- the names of a function's scope (10.5)
+
+abbrev pub function_object : List FunctionTree → ℕ → ScopeId → Place → Does Value
+function_object functions n scope p = closure n (arity_of (slice_get functions n)) scope p
+
+-- each parameter has its argument, or undefined; of two of one name the later one counts
+abbrev pub parameters_from : Scoping → Context → Place → List BoundName → List Value → Does (Unit {0})
+parameters_from scoping cx p [] vs = pure tt
+parameters_from scoping cx p (x ∷ xs) [] = scoping.write_name cx x value.Undefined p >> parameters_from scoping cx p xs []
+parameters_from scoping cx p (x ∷ xs) (v ∷ vs) = scoping.write_name cx x v p >> parameters_from scoping cx p xs vs
+
+-- the functions that a body declares, in their order; each is made anew
+abbrev pub functions_from : Scoping → List FunctionTree → Context → Place → Statements → Does (Unit {0})
+functions_from scoping functions cx p no_statement = pure tt
+functions_from scoping functions cx p (a_statement (DeclareNumbered q x n) ss) =
+    function_object functions n cx.scope p >>= (λ f. scoping.write_name cx x f p) >> functions_from scoping functions cx p ss
+functions_from scoping functions cx p (a_statement s ss) = functions_from scoping functions cx p ss
 
 -- the object of the arguments (10.6)
 abbrev pub arguments_object : Place → List Value → Does Value
@@ -58,10 +74,7 @@ abbrev pub arguments_if : Bool → ScopeId → Place → List (List ℕ) → Lis
 arguments_if true scope p names vs = pure tt
 arguments_if false scope p names vs = arguments_at scope p vs (place_of arguments_name names)
 
--- ---- function objects (13.2), and what `new` makes (13.2.2)
-
-abbrev pub function_object : List FunctionTree → ℕ → ScopeId → Place → Does Value
-function_object functions n scope p = closure n (arity_of (slice_get functions n)) scope p
+-- ---- what `new` makes (13.2.2)
 
 -- the prototype of what a function constructs
 abbrev pub made_from : Value → ObjectId
@@ -96,6 +109,12 @@ own_property (Some o) name = property_at o.properties name
 abbrev pub declare_function : List ℕ → Value → Place → Does (Unit {0})
 declare_function name f p = reading (λ s. declared_over (own_property (object_at s.heap global_id) name) name f p)
 
+abbrev pub global_functions : List FunctionTree → Context → Place → Statements → Does (Unit {0})
+global_functions functions cx p no_statement = pure tt
+global_functions functions cx p (a_statement (DeclareNumbered q x n) ss) =
+    function_object functions n cx.scope p >>= (λ f. declare_function x.name f p) >> global_functions functions cx p ss
+global_functions functions cx p (a_statement s ss) = global_functions functions cx p ss
+
 -- a variable is a property of the global object, unless it has one of that name, by itself or by its prototype
 abbrev pub declared_unless : Found → List ℕ → Place → Does (Unit {0})
 declared_unless found.Absent name p = define global_id name value.Undefined true false p
@@ -107,28 +126,13 @@ global_variables p (name ∷ names) = reading (λ s. declared_unless (found_of s
 
 -- scoping: how the run has its scopes; functions: those of the script; go: what evaluation makes of the parts within
 module _ (scoping : Scoping) (functions : List FunctionTree) (go : Within) where
-  -- ---- the names of a function's scope (10.5)
-
-  -- each parameter has its argument, or undefined; of two of one name the later one counts
-  abbrev pub parameters_from : Context → Place → List BoundName → List Value → Does (Unit {0})
-  parameters_from cx p [] vs = pure tt
-  parameters_from cx p (x ∷ xs) [] = scoping.write_name cx x value.Undefined p >> parameters_from cx p xs []
-  parameters_from cx p (x ∷ xs) (v ∷ vs) = scoping.write_name cx x v p >> parameters_from cx p xs vs
-
-  -- the functions that a body declares, in their order; each is made anew
-  abbrev pub functions_from : Context → Place → Statements → Does (Unit {0})
-  functions_from cx p no_statement = pure tt
-  functions_from cx p (a_statement (DeclareNumbered q x n) ss) =
-      function_object functions n cx.scope p >>= (λ f. scoping.write_name cx x f p) >> functions_from cx p ss
-  functions_from cx p (a_statement s ss) = functions_from cx p ss
-
   -- ---- a function (13.2.1)
 
   -- its scope, the parameters, the functions, the object of the arguments, and then its body
   abbrev pub entered_in : ScopeId → Value → List Value → Place → List BoundName → List (List ℕ) → Statements → Does Value
   entered_in scope this vs p parameters names ss =
       let cx : Context = record { scope = scope; this = this } in
-      parameters_from cx p parameters vs >> functions_from cx p ss
+      parameters_from scoping cx p parameters vs >> functions_from scoping functions cx p ss
       >> arguments_if (has_own_arguments parameters ss) scope p names vs
       >> returning value.Undefined (statements_from scoping functions go cx ss)
 
@@ -144,7 +148,7 @@ module _ (scoping : Scoping) (functions : List FunctionTree) (go : Within) where
 
   abbrev pub called_by : Kind → Value → List Value → Place → Does Value
   called_by (kind.Function n around) this vs p = entered around this vs p (slice_get functions n)
-  called_by (kind.Native n) this vs p = native_outcome (call go) (native_of n) this vs p
+  called_by (kind.Native n) this vs p = native_outcome (calls go) (native_of n) this vs p
   called_by k this vs p = pure value.Undefined
 
   unfoldable pub call_node : ObjectId → Value → List Value → Place → Does Value
@@ -158,7 +162,7 @@ module _ (scoping : Scoping) (functions : List FunctionTree) (go : Within) where
     made ← make kind.Plain (Some (made_from prototype)) p
     v ← entered around (value.Object made) vs p (slice_get functions n)
     pure (object_or (value.Object made) v)
-  constructed_by (kind.Native n) f vs p = native_outcome (call go) (native_of n) value.Undefined vs p
+  constructed_by (kind.Native n) f vs p = native_outcome (calls go) (native_of n) value.Undefined vs p
   constructed_by k f vs p = pure value.Undefined
 
   unfoldable pub construct_node : ObjectId → List Value → Place → Does Value
@@ -166,13 +170,7 @@ module _ (scoping : Scoping) (functions : List FunctionTree) (go : Within) where
 
   -- ---- the load of a script (10.5, 14)
 
-  abbrev pub global_functions : Context → Place → Statements → Does (Unit {0})
-  global_functions cx p no_statement = pure tt
-  global_functions cx p (a_statement (DeclareNumbered q x n) ss) =
-      function_object functions n cx.scope p >>= (λ f. declare_function x.name f p) >> global_functions cx p ss
-  global_functions cx p (a_statement s ss) = global_functions cx p ss
-
   unfoldable pub load_node : ScopeId → Statements → Place → Does Value
   load_node outer ss p =
       let cx : Context = record { scope = outer; this = global_object } in
-      global_functions cx p ss >> global_variables p (variables_of_all ss) >> statements_from scoping functions go cx ss
+      global_functions functions cx p ss >> global_variables p (variables_of_all ss) >> statements_from scoping functions go cx ss

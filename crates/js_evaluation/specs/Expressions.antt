@@ -27,7 +27,7 @@ use Rattle.run_trees.specs.Runs.{pure, reading, ◌>>=◌, ◌>>◌}
 use Rattle.js_evaluation.specs.State.{Does, charge, make, define, write_slot, test_text, built_in_object, global_object, set_base, the_base, throw_type_error, unsupported}
 use Rattle.js_evaluation.specs.Objects.{Context, get, put, test_base, delete_property, closure, arity_of}
 use Rattle.js_evaluation.specs.Scoping.{Scoping}
-use Rattle.js_evaluation.specs.Parts.{Within, visit, visit_target, call, construct, expression_place, suffix_place, last_place}
+use Rattle.js_evaluation.specs.Parts.{Within, visit, visit_target, calls, construct, expression_place, suffix_place, last_place}
 use Rattle.js_evaluation.specs.Conversions.{call_value, text_methods, to_primitive, to_number, to_bits, binary, stepped, assigned_by, type_text}
 use Rattle.js_evaluation.specs.NativeTable.{constructs, native_of, native_name}
 
@@ -121,14 +121,14 @@ module _ (scoping : Scoping) (functions : List FunctionTree) (go : Within) where
 
   -- the index of a value: the expression, the test of the base, and the key, a primitive value whose text is the name
   abbrev pub key_of : Context → Value → ExpressionTree → Place → Does Value
-  key_of cx base e p = visit go cx e >>= (λ v. test_base base p >> to_primitive (call go) text_methods v p)
+  key_of cx base e p = visit go cx e >>= (λ v. test_base base p >> to_primitive (calls go) text_methods v p)
 
   -- what a suffix gives of a value, beside the value that a call behind it has as its `this`; the first of the two that
   -- are handed in is the `this` of a call
   abbrev pub suffix_at : Context → Value → Value → SuffixTree → Does (Value × Value)
   suffix_at cx this v (a_member p name) = test_base v p >> get v name p >>= (λ w. pure (v, w))
   suffix_at cx this v (an_index p e) = key_of cx v e p >>= (λ key. get v (text_of key) p >>= (λ w. pure (v, w)))
-  suffix_at cx this v (a_call p es) = arguments_from cx [] es >>= (λ vs. call_value (call go) v this vs p >>= (λ w. pure (global_object, w)))
+  suffix_at cx this v (a_call p es) = arguments_from cx [] es >>= (λ vs. call_value (calls go) v this vs p >>= (λ w. pure (global_object, w)))
 
   -- each suffix is charged where it is applied; the base of the last one stays
   abbrev pub suffixes_from : Context → Value → Value → Suffixes → Does Value
@@ -180,8 +180,8 @@ module _ (scoping : Scoping) (functions : List FunctionTree) (go : Within) where
   updated cx p f o e = do
     r ← reference cx e
     old ← read scoping cx r
-    n ← to_number (call go) old p
-    m ← stepped (call go) o n p
+    n ← to_number (calls go) old p
+    m ← stepped (calls go) o n p
     _written ← write scoping cx r (value.Number m) p
     pure (given_by f (value.Number n) (value.Number m))
 
@@ -201,9 +201,9 @@ module _ (scoping : Scoping) (functions : List FunctionTree) (go : Within) where
   unary_value cx p unary.Delete e = deleted cx p e
   unary_value cx p unary.Void e = visit go cx e >> pure value.Undefined
   unary_value cx p unary.TypeOf e = type_of cx e >>= (λ v. reading (λ s. pure (value.Text (type_text s.heap v))))
-  unary_value cx p unary.Plus e = visit go cx e >>= (λ v. to_number (call go) v p >>= (λ n. pure (value.Number n)))
-  unary_value cx p unary.Minus e = visit go cx e >>= (λ v. to_number (call go) v p >>= (λ n. pure (value.Number (neg_ℤ n))))
-  unary_value cx p unary.BitNot e = visit go cx e >>= (λ v. to_bits (call go) v p >>= (λ n. pure (value.Number (neg_ℤ n -ℤ pos 1))))
+  unary_value cx p unary.Plus e = visit go cx e >>= (λ v. to_number (calls go) v p >>= (λ n. pure (value.Number n)))
+  unary_value cx p unary.Minus e = visit go cx e >>= (λ v. to_number (calls go) v p >>= (λ n. pure (value.Number (neg_ℤ n))))
+  unary_value cx p unary.BitNot e = visit go cx e >>= (λ v. to_bits (calls go) v p >>= (λ n. pure (value.Number (neg_ℤ n -ℤ pos 1))))
   unary_value cx p unary.Not e = visit go cx e >>= (λ v. pure (value.Bool (not (truth_of v))))
 
   -- ---- binary operators (11.5 to 11.11)
@@ -212,7 +212,7 @@ module _ (scoping : Scoping) (functions : List FunctionTree) (go : Within) where
   abbrev pub operand_by : Context → Place → BinaryOp → Value → ExpressionTree → Does Value
   operand_by cx p op.Or v e = if truth_of v then pure v else visit go cx e
   operand_by cx p op.And v e = if truth_of v then visit go cx e else pure v
-  operand_by cx p o v e = visit go cx e >>= (λ w. binary (call go) o v w p)
+  operand_by cx p o v e = visit go cx e >>= (λ w. binary (calls go) o v w p)
 
   abbrev pub operands_from : Context → Value → Operands → Does Value
   operands_from cx v no_operand = pure v
@@ -228,7 +228,7 @@ module _ (scoping : Scoping) (functions : List FunctionTree) (go : Within) where
 
   abbrev pub assigned_with : Context → Place → Reference → Option BinaryOp → ExpressionTree → Does Value
   assigned_with cx p r None e = visit go cx e
-  assigned_with cx p r (Some o) e = read scoping cx r >>= (λ old. visit go cx e >>= (λ v. binary (call go) o old v p))
+  assigned_with cx p r (Some o) e = read scoping cx r >>= (λ old. visit go cx e >>= (λ v. binary (calls go) o old v p))
 
   abbrev pub assigned : Context → Place → ExpressionTree → AssignOp → ExpressionTree → Does Value
   assigned cx p e o value = reference cx e >>= (λ r. assigned_with cx p r (assigned_by o) value >>= (λ v. write scoping cx r v p >> pure v))

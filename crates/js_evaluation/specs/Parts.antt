@@ -35,8 +35,8 @@ module _ (go : Within) where
   abbrev pub execute : Context → StatementTree → Does Value
   execute cx s = go (statement_part cx s)
 
-  abbrev pub call : Call
-  call f this vs p = go (call_part f this vs p)
+  abbrev pub calls : Call
+  calls f this vs p = go (call_part f this vs p)
 
   abbrev pub construct : ObjectId → List Value → Place → Does Value
   construct f vs p = go (construct_part f vs p)

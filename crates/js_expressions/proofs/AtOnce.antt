@@ -18,8 +18,9 @@ use Rattle.js_evaluation.specs.Objects.{Context}
 use Rattle.js_evaluation.specs.Conversions as convert
 use Rattle.js_evaluation.specs.Conversions.{Call}
 use Rattle.js_frames.specs.Parts.{context_of}
-use Rattle.js_frames.specs.Rules as rule
-use Rattle.js_frames.specs.Rules.{Within}
+use Rattle.js_evaluation.specs.Expressions as rule
+use Rattle.js_evaluation.specs.Parts.{Within, calls, visit}
+use Rattle.js_evaluation.specs.Scoping.{by_slots}
 use Rattle.heap_steps.specs.declared.halt.Halt.{Halt}
 use Rattle.heap_steps.specs.Works.{Works}
 use Rattle.js_machine.specs.declared.machine.Machine.{Machine}
@@ -146,44 +147,44 @@ module _ (call : Call) (o : BinaryOp) (v : Value) (p : Place) (once : is_at_once
 module _ (m m₁ : Machine) (v : Value) (x : Operand) (xs : List Operand) (once : is_at_once x.op v ≡ true) (r : Result Now Halt) (m' : Machine) where
   -- what is done with an operand that has a value
   abbrev with_operand : List FunctionTree → Within → Context → Value → Does Value
-  with_operand functions go cx w = convert.binary (rule.call functions go cx) x.op v w x.place >>= (λ u. rule.operands_from functions go cx u (operands_of xs))
+  with_operand functions go cx w = convert.binary (calls go) x.op v w x.place >>= (λ u. rule.operands_from by_slots functions go cx u (operands_of xs))
 
-  from_operand : Moves (at m rule.visit x.value >>= at m with_operand) m r m' → Moves (at m rule.operands_from v (operands_of (x ∷ xs))) m r m'
+  from_operand : Moves (visit (inner m) (context_of m.context) x.value >>= at m with_operand) m r m' → Moves (at m (rule.operands_from by_slots) v (operands_of (x ∷ xs))) m r m'
   from_operand k = let o = takes_both x.op v once in evaluated_moves m v x xs r m' (undecided x.op v o.not_or o.not_and)
-      (subst (λ (q : Does Value). Moves (q >>= (λ u. at m rule.operands_from u (operands_of xs))) m r m') (sym (operand_else (functions_of m) (inner m) (context_of m.context) x.op v x o.not_or o.not_and)) k)
+      (subst (λ (q : Does Value). Moves (q >>= (λ u. at m (rule.operands_from by_slots) u (operands_of xs))) m r m') (sym (operand_else (functions_of m) (inner m) (context_of m.context) x.op v x o.not_or o.not_and)) k)
 
-  pub operand_then : (w : Value) → Reaches (at m rule.visit x.value) m (Ok (Some w)) m₁ → Moves (at m₁ with_operand w) m₁ r m' → Moves (at m rule.operands_from v (operands_of (x ∷ xs))) m r m'
-  operand_then w k goes = from_operand (reached_then (at m rule.visit x.value) with_operand m m₁ w r m' k goes)
+  pub operand_then : (w : Value) → Reaches (visit (inner m) (context_of m.context) x.value) m (Ok (Some w)) m₁ → Moves (at m₁ with_operand w) m₁ r m' → Moves (at m (rule.operands_from by_slots) v (operands_of (x ∷ xs))) m r m'
+  operand_then w k goes = from_operand (reached_then (visit (inner m) (context_of m.context) x.value) with_operand m m₁ w r m' k goes)
 
-  pub operand_worked : (w u : Value) (h : HeapView) → ((call : Call) → converted_object call x.op v w ≡ None) → Reaches (at m rule.visit x.value) m (Ok (Some w)) m₁
+  pub operand_worked : (w u : Value) (h : HeapView) → ((call : Call) → converted_object call x.op v w ≡ None) → Reaches (visit (inner m) (context_of m.context) x.value) m (Ok (Some w)) m₁
       → ((call : Call) → Works (convert.operated call (operator_value x.op v w) x.place) m₁.state.heap (Ok u) h)
-      → Moves (at m₁ rule.operands_from u (operands_of xs)) (with_heap m₁ h) r m' → Moves (at m rule.operands_from v (operands_of (x ∷ xs))) m r m'
+      → Moves (at m₁ (rule.operands_from by_slots) u (operands_of xs)) (with_heap m₁ h) r m' → Moves (at m (rule.operands_from by_slots) v (operands_of (x ∷ xs))) m r m'
   operand_worked w u h none k works goes = operand_then w k
-      (subst (λ (q : Does Value). Moves (q >>= (λ y. at m₁ rule.operands_from y (operands_of xs))) m₁ r m') (sym (binary_worked (at m₁ rule.call) x.op v x.place once w (none (at m₁ rule.call))))
-      (works_then _ _ m₁ h u (works (at m₁ rule.call)) goes))
+      (subst (λ (q : Does Value). Moves (q >>= (λ y. at m₁ (rule.operands_from by_slots) y (operands_of xs))) m₁ r m') (sym (binary_worked (calls (inner m₁)) x.op v x.place once w (none (calls (inner m₁)))))
+      (works_then _ _ m₁ h u (works (calls (inner m₁))) goes))
 
   -- an object on the right side becomes primitive first
   abbrev with_object : List FunctionTree → Within → Context → ObjectId → Does Value
-  with_object functions go cx object = convert.to_primitive (rule.call functions go cx) convert.number_methods (value.Object object) x.place
-      >>= (λ w. convert.operated (rule.call functions go cx) (operator_value x.op v w) x.place >>= (λ u. rule.operands_from functions go cx u (operands_of xs)))
+  with_object functions go cx object = convert.to_primitive (calls go) convert.number_methods (value.Object object) x.place
+      >>= (λ w. convert.operated (calls go) (operator_value x.op v w) x.place >>= (λ u. rule.operands_from by_slots functions go cx u (operands_of xs)))
 
-  pub operand_converted : (w : Value) (object : ObjectId) → ((call : Call) → converted_object call x.op v w ≡ Some object) → Reaches (at m rule.visit x.value) m (Ok (Some w)) m₁
-      → Moves (at m₁ with_object object) m₁ r m' → Moves (at m rule.operands_from v (operands_of (x ∷ xs))) m r m'
+  pub operand_converted : (w : Value) (object : ObjectId) → ((call : Call) → converted_object call x.op v w ≡ Some object) → Reaches (visit (inner m) (context_of m.context) x.value) m (Ok (Some w)) m₁
+      → Moves (at m₁ with_object object) m₁ r m' → Moves (at m (rule.operands_from by_slots) v (operands_of (x ∷ xs))) m r m'
   operand_converted w object some k goes = operand_then w k
-      (subst (λ (q : Does Value). Moves (q >>= (λ y. at m₁ rule.operands_from y (operands_of xs))) m₁ r m') (sym (binary_converted (at m₁ rule.call) x.op v x.place once w object (some (at m₁ rule.call)))) goes)
+      (subst (λ (q : Does Value). Moves (q >>= (λ y. at m₁ (rule.operands_from by_slots) y (operands_of xs))) m₁ r m') (sym (binary_converted (calls (inner m₁)) x.op v x.place once w object (some (calls (inner m₁))))) goes)
 
 module _ (m m₁ : Machine) (v : Value) (x : Operand) (xs : List Operand) (once : is_at_once x.op v ≡ true) (r : Result Now Halt) (e : Halt) (i : IsErrAnd r (λ y. y ≡ e)) where
-  pub operand_stops : Reaches (at m rule.visit x.value) m (Err e) m₁ → Moves (at m rule.operands_from v (operands_of (x ∷ xs))) m r m₁
-  operand_stops k = from_operand m m₁ v x xs once r m₁ (reached_stops (at m rule.visit x.value) (with_operand m m₁ v x xs once r m₁) m m₁ r e i k)
+  pub operand_stops : Reaches (visit (inner m) (context_of m.context) x.value) m (Err e) m₁ → Moves (at m (rule.operands_from by_slots) v (operands_of (x ∷ xs))) m r m₁
+  operand_stops k = from_operand m m₁ v x xs once r m₁ (reached_stops (visit (inner m) (context_of m.context) x.value) (with_operand m m₁ v x xs once r m₁) m m₁ r e i k)
 
-  pub operation_stops : (w : Value) (h : HeapView) → ((call : Call) → converted_object call x.op v w ≡ None) → Reaches (at m rule.visit x.value) m (Ok (Some w)) m₁
+  pub operation_stops : (w : Value) (h : HeapView) → ((call : Call) → converted_object call x.op v w ≡ None) → Reaches (visit (inner m) (context_of m.context) x.value) m (Ok (Some w)) m₁
       → ((call : Call) → Works (convert.operated call (operator_value x.op v w) x.place) m₁.state.heap (Err e) h)
-      → Moves (at m rule.operands_from v (operands_of (x ∷ xs))) m r (with_heap m₁ h)
+      → Moves (at m (rule.operands_from by_slots) v (operands_of (x ∷ xs))) m r (with_heap m₁ h)
   operation_stops w h none k works = operand_then m m₁ v x xs once r (with_heap m₁ h) w k
-      (subst (λ (q : Does Value). Moves (q >>= (λ y. at m₁ rule.operands_from y (operands_of xs))) m₁ r (with_heap m₁ h)) (sym (binary_worked (at m₁ rule.call) x.op v x.place once w (none (at m₁ rule.call))))
-      (works_stops _ _ m₁ h r e i (works (at m₁ rule.call))))
+      (subst (λ (q : Does Value). Moves (q >>= (λ y. at m₁ (rule.operands_from by_slots) y (operands_of xs))) m₁ r (with_heap m₁ h)) (sym (binary_worked (calls (inner m₁)) x.op v x.place once w (none (calls (inner m₁)))))
+      (works_stops _ _ m₁ h r e i (works (calls (inner m₁)))))
 
 -- an operand that isn't had at once
-pub operand_visited : (m m₁ : Machine) (v : Value) (x : Operand) (xs : List Operand) (r : Result Now Halt) (m' : Machine) → Reaches (at m rule.visit x.value) m (Ok None) m₁
-    → Moves (at m₁ rule.operands_from v (operands_of (x ∷ xs))) m₁ r m' → Moves (at m rule.operands_from v (operands_of (x ∷ xs))) m r m'
-operand_visited m m₁ v x xs r m' k goes = not_reached (at m rule.visit x.value) (λ functions go cx. rule.operands_from functions go cx v (operands_of (x ∷ xs))) m m₁ r m' k goes
+pub operand_visited : (m m₁ : Machine) (v : Value) (x : Operand) (xs : List Operand) (r : Result Now Halt) (m' : Machine) → Reaches (visit (inner m) (context_of m.context) x.value) m (Ok None) m₁
+    → Moves (at m₁ (rule.operands_from by_slots) v (operands_of (x ∷ xs))) m₁ r m' → Moves (at m (rule.operands_from by_slots) v (operands_of (x ∷ xs))) m r m'
+operand_visited m m₁ v x xs r m' k goes = not_reached (visit (inner m) (context_of m.context) x.value) (λ functions go cx. rule.operands_from by_slots functions go cx v (operands_of (x ∷ xs))) m m₁ r m' k goes

@@ -14,8 +14,9 @@ use Rattle.js_evaluation.specs.Objects.{Context}
 use Rattle.js_evaluation.specs.Conversions as convert
 use Rattle.js_evaluation.specs.Conversions.{Call}
 use Rattle.js_frames.specs.Parts.{context_of}
-use Rattle.js_frames.specs.Rules as rule
-use Rattle.js_frames.specs.Rules.{Within}
+use Rattle.js_evaluation.specs.Expressions as rule
+use Rattle.js_evaluation.specs.Parts.{Within, calls, visit}
+use Rattle.js_evaluation.specs.Scoping.{by_slots}
 use Rattle.heap_steps.specs.declared.halt.Halt.{Halt}
 use Rattle.js_machine.specs.declared.machine.Machine.{Machine}
 use Rattle.js_machine.specs.declared.now.Now.{Now}
@@ -111,7 +112,7 @@ not_false false h = cc
 
 module _ (functions : List FunctionTree) (go : Within) (cx : Context) where
   pub operand_else : (o : BinaryOp) (v : Value) (x : Operand) → (o ≡ op.Or → ⊥) → (o ≡ op.And → ⊥)
-      → operand_by functions go cx o v x ≡ (rule.visit functions go cx x.value >>= (λ w. convert.binary (rule.call functions go cx) o v w x.place))
+      → operand_by functions go cx o v x ≡ (visit go cx x.value >>= (λ w. convert.binary (calls go) o v w x.place))
   operand_else op.Or v x m n = absurd (m refl)
   operand_else op.And v x m n = absurd (n refl)
   operand_else op.BitOr v x m n = refl
@@ -137,9 +138,9 @@ module _ (functions : List FunctionTree) (go : Within) (cx : Context) where
   operand_else op.Remainder v x m n = refl
 
   -- a value that decides stays
-  by_decided : (p : Place) (o : BinaryOp) (v : Value) (e : ExpressionTree) → decides o v ≡ true → rule.operand_by functions go cx p o v e ≡ pure v
-  by_decided p op.Or v e h = ap (λ b. if b then pure v else rule.visit functions go cx e) h
-  by_decided p op.And v e h = ap (λ b. if b then rule.visit functions go cx e else pure v) (not_true (truth_of v) h)
+  by_decided : (p : Place) (o : BinaryOp) (v : Value) (e : ExpressionTree) → decides o v ≡ true → rule.operand_by by_slots functions go cx p o v e ≡ pure v
+  by_decided p op.Or v e h = ap (λ b. if b then pure v else visit go cx e) h
+  by_decided p op.And v e h = ap (λ b. if b then visit go cx e else pure v) (not_true (truth_of v) h)
   by_decided p op.BitOr v e h = cc
   by_decided p op.BitXor v e h = cc
   by_decided p op.BitAnd v e h = cc
@@ -163,13 +164,13 @@ module _ (functions : List FunctionTree) (go : Within) (cx : Context) where
   by_decided p op.Remainder v e h = cc
 
   pub decided : (p : Place) (o : BinaryOp) (v : Value) (e : ExpressionTree) (rest : Operands) → decides o v ≡ true
-      → rule.operands_from functions go cx v (an_operand p o e rest) ≡ rule.operands_from functions go cx v rest
-  decided p o v e rest h = ap (λ (q : Does Value). q >>= (λ w. rule.operands_from functions go cx w rest)) (by_decided p o v e h)
+      → rule.operands_from by_slots functions go cx v (an_operand p o e rest) ≡ rule.operands_from by_slots functions go cx v rest
+  decided p o v e rest h = ap (λ (q : Does Value). q >>= (λ w. rule.operands_from by_slots functions go cx w rest)) (by_decided p o v e h)
 
   -- an operand behind a value that doesn't decide is evaluated
-  pub evaluated_operand : (o : BinaryOp) (v : Value) (x : Operand) → decides o v ≡ false → rule.operand_by functions go cx x.place o v x.value ≡ operand_by functions go cx o v x
-  evaluated_operand op.Or v x h = ap (λ b. if b then pure v else rule.visit functions go cx x.value) h
-  evaluated_operand op.And v x h = ap (λ b. if b then rule.visit functions go cx x.value else pure v) (not_false (truth_of v) h)
+  pub evaluated_operand : (o : BinaryOp) (v : Value) (x : Operand) → decides o v ≡ false → rule.operand_by by_slots functions go cx x.place o v x.value ≡ operand_by functions go cx o v x
+  evaluated_operand op.Or v x h = ap (λ b. if b then pure v else visit go cx x.value) h
+  evaluated_operand op.And v x h = ap (λ b. if b then visit go cx x.value else pure v) (not_false (truth_of v) h)
   evaluated_operand op.BitOr v x h = refl
   evaluated_operand op.BitXor v x h = refl
   evaluated_operand op.BitAnd v x h = refl
@@ -193,11 +194,11 @@ module _ (functions : List FunctionTree) (go : Within) (cx : Context) where
   evaluated_operand op.Remainder v x h = refl
 
 module _ (m : Machine) (v : Value) (x : Operand) (xs : List Operand) (r : Result Now Halt) (m' : Machine) where
-  pub decided_moves : decides x.op v ≡ true → Moves (at m rule.operands_from v (operands_of xs)) m r m'
-      → Moves (at m rule.operands_from v (operands_of (x ∷ xs))) m r m'
+  pub decided_moves : decides x.op v ≡ true → Moves (at m (rule.operands_from by_slots) v (operands_of xs)) m r m'
+      → Moves (at m (rule.operands_from by_slots) v (operands_of (x ∷ xs))) m r m'
   decided_moves h k = subst (λ q. Moves q m r m') (sym (decided (functions_of m) (inner m) (context_of m.context) x.place x.op v x.value (operands_of xs) h)) k
 
-  pub evaluated_moves : decides x.op v ≡ false → Moves (at m operand_by x.op v x >>= (λ w. at m rule.operands_from w (operands_of xs))) m r m'
-      → Moves (at m rule.operands_from v (operands_of (x ∷ xs))) m r m'
-  evaluated_moves h k = subst (λ q. Moves (q >>= (λ w. at m rule.operands_from w (operands_of xs))) m r m')
+  pub evaluated_moves : decides x.op v ≡ false → Moves (at m operand_by x.op v x >>= (λ w. at m (rule.operands_from by_slots) w (operands_of xs))) m r m'
+      → Moves (at m (rule.operands_from by_slots) v (operands_of (x ∷ xs))) m r m'
+  evaluated_moves h k = subst (λ q. Moves (q >>= (λ w. at m (rule.operands_from by_slots) w (operands_of xs))) m r m')
       (sym (evaluated_operand (functions_of m) (inner m) (context_of m.context) x.op v x h)) k

@@ -8,14 +8,16 @@ use Rattle.js_tree.specs.declared.expression.FunctionPart.TheVariants as part
 use Rattle.js_tree.specs.Tree.{ExpressionTree, FunctionTree, Suffixes, Name, Suffixed}
 use Rattle.js_tree.specs.View.{expression_of}
 use Rattle.run_trees.specs.Runs.{◌>>=◌, ◌>>◌}
-use Rattle.js_evaluation.specs.Objects.{Context, delete_bound, read_or_undefined}
+use Rattle.js_evaluation.specs.BySlots.{delete_bound, read_or_undefined}
+use Rattle.js_evaluation.specs.Objects.{Context}
 use Rattle.js_evaluation.specs.Expressions.{expression_node}
-use Rattle.js_frames.specs.Rules as rule
-use Rattle.js_frames.specs.Rules.{Within}
+use Rattle.js_evaluation.specs.Expressions as rule
+use Rattle.js_evaluation.specs.Parts.{Within, visit, visit_target}
+use Rattle.js_evaluation.specs.Scoping.{by_slots}
 
 -- `typeof` reads it
 pub type_read : (functions : List FunctionTree) (go : Within) (cx : Context) (p : Place) (n : ExpressionNode) → ((x : BoundName) → n ≡ node.Name x → ⊥)
-    → rule.type_of functions go cx (expression_of p n) ≡ rule.visit functions go cx (expression_of p n)
+    → rule.type_of by_slots functions go cx (expression_of p n) ≡ visit go cx (expression_of p n)
 type_read functions go cx p (node.Number x) h = refl
 type_read functions go cx p (node.Text x) h = refl
 type_read functions go cx p node.True h = refl
@@ -37,25 +39,25 @@ type_read functions go cx p (node.Function (part.Whole f)) h = refl
 type_read functions go cx p (node.Function (part.Numbered k)) h = refl
 
 module _ (functions : List FunctionTree) (go : Within) (cx : Context) (e : ExpressionTree) where
-  pub type_else : (p : Place) (n : ExpressionNode) → expression_of p n ≡ e → ((x : BoundName) → n ≡ node.Name x → ⊥) → rule.type_of functions go cx e ≡ rule.visit functions go cx e
-  type_else p n is h = subst (λ x. rule.type_of functions go cx x ≡ rule.visit functions go cx x) is (type_read functions go cx p n h)
+  pub type_else : (p : Place) (n : ExpressionNode) → expression_of p n ≡ e → ((x : BoundName) → n ≡ node.Name x → ⊥) → rule.type_of by_slots functions go cx e ≡ visit go cx e
+  type_else p n is h = subst (λ x. rule.type_of by_slots functions go cx x ≡ visit go cx x) is (type_read functions go cx p n h)
 
-  pub type_name : (p : Place) (x : BoundName) → Name p x ≡ e → rule.type_of functions go cx e ≡ (rule.visit_target functions go cx e >> read_or_undefined cx x p)
-  type_name p x is = subst (λ y. rule.type_of functions go cx y ≡ (rule.visit_target functions go cx y >> read_or_undefined cx x p)) is refl
+  pub type_name : (p : Place) (x : BoundName) → Name p x ≡ e → rule.type_of by_slots functions go cx e ≡ (visit_target go cx e >> read_or_undefined cx x p)
+  type_name p x is = subst (λ y. rule.type_of by_slots functions go cx y ≡ (visit_target go cx y >> read_or_undefined cx x p)) is refl
 
   pub delete_name : (place p : Place) (x : BoundName) → Name p x ≡ e
-      → rule.deleted functions go cx place e ≡ (rule.visit_target functions go cx e >> delete_bound x.name x.bound place)
-  delete_name place p x is = subst (λ y. rule.deleted functions go cx place y ≡ (rule.visit_target functions go cx y >> delete_bound x.name x.bound place)) is refl
+      → rule.deleted by_slots functions go cx place e ≡ (visit_target go cx e >> delete_bound x.name x.bound place)
+  delete_name place p x is = subst (λ y. rule.deleted by_slots functions go cx place y ≡ (visit_target go cx y >> delete_bound x.name x.bound place)) is refl
 
   pub target_suffixed : (p : Place) (first : ExpressionTree) (ss : Suffixes) → Suffixed p first ss ≡ e
-      → rule.target_node functions go cx e
-      ≡ (rule.visit functions go cx first >>= (λ v. rule.this_behind functions go cx first >>= (λ this. rule.target_suffixes functions go cx this v ss)))
-  target_suffixed p first ss is = subst (λ y. rule.target_node functions go cx y
-      ≡ (rule.visit functions go cx first >>= (λ v. rule.this_behind functions go cx first >>= (λ this. rule.target_suffixes functions go cx this v ss)))) is refl
+      → rule.target_node by_slots functions go cx e
+      ≡ (visit go cx first >>= (λ v. rule.this_behind first >>= (λ this. rule.target_suffixes by_slots functions go cx this v ss)))
+  target_suffixed p first ss is = subst (λ y. rule.target_node by_slots functions go cx y
+      ≡ (visit go cx first >>= (λ v. rule.this_behind first >>= (λ this. rule.target_suffixes by_slots functions go cx this v ss)))) is refl
 
   pub node_suffixed : (p : Place) (first : ExpressionTree) (ss : Suffixes) → Suffixed p first ss ≡ e
-      → rule.expression_node functions go cx e
-      ≡ (rule.visit functions go cx first >>= (λ v. rule.this_behind functions go cx first >>= (λ this. rule.suffixes_from functions go cx this v ss)))
+      → rule.expression_node by_slots functions go cx e
+      ≡ (visit go cx first >>= (λ v. rule.this_behind first >>= (λ this. rule.suffixes_from by_slots functions go cx this v ss)))
   unfolding expression_node
-  node_suffixed p first ss is = subst (λ y. rule.expression_node functions go cx y
-      ≡ (rule.visit functions go cx first >>= (λ v. rule.this_behind functions go cx first >>= (λ this. rule.suffixes_from functions go cx this v ss)))) is refl
+  node_suffixed p first ss is = subst (λ y. rule.expression_node by_slots functions go cx y
+      ≡ (visit go cx first >>= (λ v. rule.this_behind first >>= (λ this. rule.suffixes_from by_slots functions go cx this v ss)))) is refl

@@ -17,12 +17,12 @@ use Rattle.js_evaluation.specs.State.{Does, charge}
 use Rattle.js_convert.specs.Texts.{text_of}
 use Rattle.js_evaluation.specs.Objects.{Context, get, test_base}
 use Rattle.js_evaluation.specs.Conversions as convert
-use Rattle.js_evaluation.specs.Expressions.{suffix_place}
 use Rattle.js_frames.specs.declared.expression_frame.Aim.{Aim}
 use Rattle.js_frames.specs.declared.expression_frame.Aim.TheVariants as aim
 use Rattle.js_frames.specs.Parts.{context_of}
-use Rattle.js_frames.specs.Rules as rule
-use Rattle.js_frames.specs.Rules.{Within}
+use Rattle.js_evaluation.specs.Expressions as rule
+use Rattle.js_evaluation.specs.Parts.{Within, calls, visit, suffix_place}
+use Rattle.js_evaluation.specs.Scoping.{by_slots}
 use Rattle.js_frames.specs.RestOf.{suffixes_by}
 use Rattle.heap_steps.specs.declared.halt.Halt.{Halt}
 use Rattle.heap_steps.specs.declared.halt.Halt.TheVariants as halt
@@ -40,13 +40,13 @@ use Rattle.js_native_calls.proofs.Steps.{with_fuel, charged, spent}
 module _ (functions : List FunctionTree) (go : Within) (cx : Context) where
   -- a suffix, and then those behind it
   abbrev pub and_then : Aim → Value → Value → SuffixTree → List Suffix → Does Value
-  and_then purpose this v s ss = rule.suffix_at functions go cx this v s >>= (λ x. suffixes_by functions go cx purpose x.0 x.1 (suffixes_of ss))
+  and_then purpose this v s ss = rule.suffix_at by_slots functions go cx this v s >>= (λ x. suffixes_by functions go cx purpose x.0 x.1 (suffixes_of ss))
 
   -- what comes behind the charge
   abbrev behind : Aim → Value → Value → SuffixTree → Suffixes → Does Value
-  behind aim.Value this v s ss = rule.suffix_at functions go cx this v s >>= (λ x. rule.suffixes_from functions go cx x.0 x.1 ss)
-  behind aim.Target this v s no_suffix = rule.last_at functions go cx v s
-  behind aim.Target this v s (a_suffix t ss) = rule.suffix_at functions go cx this v s >>= (λ x. rule.target_suffixes functions go cx x.0 x.1 (a_suffix t ss))
+  behind aim.Value this v s ss = rule.suffix_at by_slots functions go cx this v s >>= (λ x. rule.suffixes_from by_slots functions go cx x.0 x.1 ss)
+  behind aim.Target this v s no_suffix = rule.last_at by_slots functions go cx v s
+  behind aim.Target this v s (a_suffix t ss) = rule.suffix_at by_slots functions go cx this v s >>= (λ x. rule.target_suffixes by_slots functions go cx x.0 x.1 (a_suffix t ss))
 
   by_charge : (purpose : Aim) (this v : Value) (s : SuffixTree) (ss : Suffixes)
       → suffixes_by functions go cx purpose this v (a_suffix s ss) ≡ (charge (suffix_place s) >> behind purpose this v s ss)
@@ -64,7 +64,7 @@ module _ (functions : List FunctionTree) (go : Within) (cx : Context) where
   charged_suffix purpose this v p n ss = by_charge purpose this v (suffix_of p n) ss ∙ ap (λ q. charge q >> behind purpose this v (suffix_of p n) ss) (place_of p n)
 
   behind_last : (purpose : Aim) (this v : Value) (s : SuffixTree) (ss : List Suffix) → is_last purpose ss ≡ true
-      → behind purpose this v s (suffixes_of ss) ≡ rule.last_at functions go cx v s
+      → behind purpose this v s (suffixes_of ss) ≡ rule.last_at by_slots functions go cx v s
   behind_last aim.Value this v s ss h = cc
   behind_last aim.Target this v s [] h = refl
   behind_last aim.Target this v s (t ∷ ts) h = cc
@@ -83,7 +83,7 @@ module _ (m : Machine) (purpose : Aim) (this v : Value) where
     spent_suffix r e m' i h = subst (λ q. Moves q m r m') (sym (charged_suffix (functions_of m) (inner m) (context_of m.context) purpose this v p n (suffixes_of ss))) (spent _ m p r e m' i h)
 
     module _ (less : ℕ) (taken : less + 1 ≡ m.state.fuel) (r : Result Now Halt) (m' : Machine) where
-      pub last_charged : is_last purpose ss ≡ true → Moves (at m rule.last_at v (suffix_of p n)) (with_fuel m less) r m'
+      pub last_charged : is_last purpose ss ≡ true → Moves (at m (rule.last_at by_slots) v (suffix_of p n)) (with_fuel m less) r m'
           → Moves (at m suffixes_by purpose this v (a_suffix (suffix_of p n) (suffixes_of ss))) m r m'
       last_charged h k = subst (λ q. Moves q m r m') (sym (charged_suffix (functions_of m) (inner m) (context_of m.context) purpose this v p n (suffixes_of ss)))
           (charged _ m p less taken r m' (subst (λ q. Moves q (with_fuel m less) r m') (sym (behind_last (functions_of m) (inner m) (context_of m.context) purpose this v (suffix_of p n) ss h)) k))
@@ -108,23 +108,23 @@ module _ (m : Machine) (purpose : Aim) (this v : Value) where
 module _ (m m₁ : Machine) (purpose : Aim) (this v : Value) (p : Place) (e : ExpressionTree) (ss : List Suffix) (r : Result Now Halt) where
   -- what is done with an index that has a value
   abbrev with_index : List FunctionTree → Within → Context → Value → Does Value
-  with_index functions go cx k = test_base v p >> convert.to_primitive (rule.call functions go cx) convert.text_methods k p
+  with_index functions go cx k = test_base v p >> convert.to_primitive (calls go) convert.text_methods k p
       >>= (λ key. get v (text_of key) p >>= (λ w. suffixes_by functions go cx purpose v w (suffixes_of ss)))
 
-  pub index_then : (k : Value) (m' : Machine) → Reaches (at m rule.visit e) m (Ok (Some k)) m₁ → Moves (at m₁ with_index k) m₁ r m' → Moves (at m and_then purpose this v (an_index p e) ss) m r m'
-  index_then k m' reaches goes = reached_then (at m rule.visit e) with_index m m₁ k r m' reaches goes
+  pub index_then : (k : Value) (m' : Machine) → Reaches (visit (inner m) (context_of m.context) e) m (Ok (Some k)) m₁ → Moves (at m₁ with_index k) m₁ r m' → Moves (at m and_then purpose this v (an_index p e) ss) m r m'
+  index_then k m' reaches goes = reached_then (visit (inner m) (context_of m.context) e) with_index m m₁ k r m' reaches goes
 
-  pub index_stops : (h : Halt) → IsErrAnd r (λ x. x ≡ h) → Reaches (at m rule.visit e) m (Err h) m₁ → Moves (at m and_then purpose this v (an_index p e) ss) m r m₁
-  index_stops h i reaches = reached_stops (at m rule.visit e) with_index m m₁ r h i reaches
+  pub index_stops : (h : Halt) → IsErrAnd r (λ x. x ≡ h) → Reaches (visit (inner m) (context_of m.context) e) m (Err h) m₁ → Moves (at m and_then purpose this v (an_index p e) ss) m r m₁
+  index_stops h i reaches = reached_stops (visit (inner m) (context_of m.context) e) with_index m m₁ r h i reaches
 
-  pub index_visited : (m' : Machine) → Reaches (at m rule.visit e) m (Ok None) m₁ → Moves (at m₁ and_then purpose this v (an_index p e) ss) m₁ r m' → Moves (at m and_then purpose this v (an_index p e) ss) m r m'
-  index_visited m' reaches goes = not_reached (at m rule.visit e) (λ functions go cx. and_then functions go cx purpose this v (an_index p e) ss) m m₁ r m' reaches goes
+  pub index_visited : (m' : Machine) → Reaches (visit (inner m) (context_of m.context) e) m (Ok None) m₁ → Moves (at m₁ and_then purpose this v (an_index p e) ss) m₁ r m' → Moves (at m and_then purpose this v (an_index p e) ss) m r m'
+  index_visited m' reaches goes = not_reached (visit (inner m) (context_of m.context) e) (λ functions go cx. and_then functions go cx purpose this v (an_index p e) ss) m m₁ r m' reaches goes
 
   -- a primitive value is the key
-  module _ (k : Value) (primitive : (id : ObjectId) → k ≡ value.Object id → ⊥) (reaches : Reaches (at m rule.visit e) m (Ok (Some k)) m₁) (h : HeapView) where
+  module _ (k : Value) (primitive : (id : ObjectId) → k ≡ value.Object id → ⊥) (reaches : Reaches (visit (inner m) (context_of m.context) e) m (Ok (Some k)) m₁) (h : HeapView) where
     by_key : (m' : Machine) → Moves (member v (text_of k) p >>= (λ w. at m₁ suffixes_by purpose v w (suffixes_of ss))) m₁ r m' → Moves (at m and_then purpose this v (an_index p e) ss) m r m'
     by_key m' goes = index_then k m' reaches (subst (λ (q : Does Value). Moves (test_base v p >> q >>= (λ key. get v (text_of key) p >>= (λ w. at m₁ suffixes_by purpose v w (suffixes_of ss)))) m₁ r m')
-        (sym (is_primitive (at m₁ rule.call) convert.text_methods k p primitive)) goes)
+        (sym (is_primitive (calls (inner m₁)) convert.text_methods k p primitive)) goes)
 
     pub element_then : (w : Value) (m' : Machine) → Works (member v (text_of k) p) m₁.state.heap (Ok w) h
         → Moves (at m₁ suffixes_by purpose v w (suffixes_of ss)) (with_heap m₁ h) r m' → Moves (at m and_then purpose this v (an_index p e) ss) m r m'

@@ -9,11 +9,10 @@ use Rattle.js_convert.specs.Texts.{text_of}
 use Rattle.run_trees.specs.Runs.{pure, ◌>>=◌, ◌>>◌}
 use Rattle.js_evaluation.specs.State.{Does, the_base}
 use Rattle.js_evaluation.specs.Objects.{Context, delete_property}
-use Rattle.js_frames.specs.Rules as rule
-use Rattle.js_frames.specs.Rules.{Within}
+use Rattle.js_evaluation.specs.Parts.{Within, visit, visit_target}
 
 module _ (functions : List FunctionTree) (go : Within) (cx : Context) where
   abbrev pub part_deleted : Place → ExpressionTree → Does Value
   part_deleted place e =
-      if is_target e then rule.visit_target functions go cx e >>= (λ key. the_base >>= (λ base. delete_property base (text_of key) place))
-      else rule.visit functions go cx e >> pure (value.Bool true)
+      if is_target e then visit_target go cx e >>= (λ key. the_base >>= (λ base. delete_property base (text_of key) place))
+      else visit go cx e >> pure (value.Bool true)

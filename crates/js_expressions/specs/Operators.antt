@@ -15,8 +15,7 @@ use Rattle.js_evaluation.specs.Conversions.{Call}
 use Rattle.js_frames.specs.declared.wanted.Operated.{Operated}
 use Rattle.js_frames.specs.RestOf as rest
 use Rattle.js_frames.specs.RestOf.{after_operator}
-use Rattle.js_frames.specs.Rules as rule
-use Rattle.js_frames.specs.Rules.{Within}
+use Rattle.js_evaluation.specs.Parts.{Within, calls}
 
 -- an object beside a primitive value that isn't undefined or null
 abbrev pub is_beside : Value → Value → Bool
@@ -29,24 +28,24 @@ converted_object call o a b = None
 
 module _ (functions : List FunctionTree) (go : Within) (cx : Context) where
   abbrev pub binary : BinaryOp → Value → Value → Place → Operated → Does Value
-  binary op a b place next = convert.binary (rule.call functions go cx) op a b place >>= after_operator functions go cx next
+  binary op a b place next = convert.binary (calls go) op a b place >>= after_operator functions go cx next
 
   abbrev pub operate : BinaryOp → Value → Value → Place → Operated → Does Value
-  operate op a b place next = convert.operate (rule.call functions go cx) op a b place >>= after_operator functions go cx next
+  operate op a b place next = convert.operate (calls go) op a b place >>= after_operator functions go cx next
 
   abbrev pub right_operand : BinaryOp → Value → Value → Place → Operated → Does Value
   right_operand op left right place next =
-      convert.to_primitive (rule.call functions go cx) convert.number_methods right place >>= (λ b. rest.operate functions go cx op left b place next)
+      convert.to_primitive (calls go) convert.number_methods right place >>= (λ b. rest.operate functions go cx op left b place next)
 
   abbrev pub both_operands : BinaryOp → Value → Value → Place → Operated → Does Value
-  both_operands op a b place next = convert.to_primitive (rule.call functions go cx) convert.number_methods a place >>= (λ x. right_operand op x b place next)
+  both_operands op a b place next = convert.to_primitive (calls go) convert.number_methods a place >>= (λ x. right_operand op x b place next)
 
   abbrev pub is_in : Value → Value → Place → Operated → Does Value
-  is_in name object place next = convert.is_in (rule.call functions go cx) name object place >>= after_operator functions go cx next
+  is_in name object place next = convert.is_in (calls go) name object place >>= after_operator functions go cx next
 
   abbrev pub instance_of : Value → Value → Place → Operated → Does Value
-  instance_of value function place next = convert.instance_of (rule.call functions go cx) value function place >>= after_operator functions go cx next
+  instance_of value function place next = convert.instance_of (calls go) value function place >>= after_operator functions go cx next
 
   -- the same, where the right side can be called
   abbrev pub instance_by : Value → Value → Place → Operated → Does Value
-  instance_by value function place next = convert.instance_of_by (rule.call functions go cx) value function place >>= after_operator functions go cx next
+  instance_by value function place next = convert.instance_of_by (calls go) value function place >>= after_operator functions go cx next

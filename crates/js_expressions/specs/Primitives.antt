@@ -9,9 +9,8 @@ use Rattle.js_evaluation.specs.Objects.{Context}
 use Rattle.js_evaluation.specs.Conversions as convert
 use Rattle.js_frames.specs.declared.wanted.Wanted.{Wanted}
 use Rattle.js_frames.specs.RestOf.{with_primitive}
-use Rattle.js_frames.specs.Rules as rule
-use Rattle.js_frames.specs.Rules.{Within}
+use Rattle.js_evaluation.specs.Parts.{Within, calls}
 
 module _ (functions : List FunctionTree) (go : Within) (cx : Context) where
   abbrev pub primitive : List (List ℕ) → Value → Place → Wanted → Does Value
-  primitive methods value place wanted = convert.to_primitive (rule.call functions go cx) methods value place >>= with_primitive functions go cx wanted
+  primitive methods value place wanted = convert.to_primitive (calls go) methods value place >>= with_primitive functions go cx wanted

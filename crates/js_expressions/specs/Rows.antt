@@ -13,8 +13,9 @@ use Rattle.run_trees.specs.Runs.{◌>>=◌}
 use Rattle.js_evaluation.specs.State.{Does}
 use Rattle.js_evaluation.specs.Objects.{Context}
 use Rattle.js_evaluation.specs.Conversions as convert
-use Rattle.js_frames.specs.Rules as rule
-use Rattle.js_frames.specs.Rules.{Within}
+use Rattle.js_evaluation.specs.Expressions as rule
+use Rattle.js_evaluation.specs.Parts.{Within, calls, visit}
+use Rattle.js_evaluation.specs.Scoping.{by_slots}
 
 -- whether the value before `||` or `&&` decides
 abbrev pub decides : BinaryOp → Value → Bool
@@ -33,9 +34,9 @@ is_at_once o v = not (is_object v)
 module _ (functions : List FunctionTree) (go : Within) (cx : Context) where
   -- an operand that is evaluated, by its operator
   abbrev pub operand_by : BinaryOp → Value → Operand → Does Value
-  operand_by op.Or v x = rule.visit functions go cx x.value
-  operand_by op.And v x = rule.visit functions go cx x.value
-  operand_by o v x = rule.visit functions go cx x.value >>= (λ w. convert.binary (rule.call functions go cx) o v w x.place)
+  operand_by op.Or v x = visit go cx x.value
+  operand_by op.And v x = visit go cx x.value
+  operand_by o v x = visit go cx x.value >>= (λ w. convert.binary (calls go) o v w x.place)
 
   abbrev pub operand_of : Value → Operand → Bor (List Operand) → Does Value
-  operand_of v x rest = operand_by x.op v x >>= (λ w. rule.operands_from functions go cx w (operands_of rest.now))
+  operand_of v x rest = operand_by x.op v x >>= (λ w. rule.operands_from by_slots functions go cx w (operands_of rest.now))

@@ -9,8 +9,9 @@ use Rattle.js_evaluation.specs.State.{Does, global_object}
 use Rattle.js_evaluation.specs.Objects.{Context, get, test_base}
 use Rattle.js_frames.specs.declared.expression_frame.Aim.{Aim}
 use Rattle.js_frames.specs.declared.expression_frame.Aim.TheVariants as aim
-use Rattle.js_frames.specs.Rules as rule
-use Rattle.js_frames.specs.Rules.{Within}
+use Rattle.js_evaluation.specs.Expressions as rule
+use Rattle.js_evaluation.specs.Parts.{Within}
+use Rattle.js_evaluation.specs.Scoping.{by_slots}
 
 -- the `this` of a call of an expression, with the base that its evaluation left
 abbrev pub this_by : ExpressionTree → Value → Value
@@ -28,4 +29,4 @@ member base name place = test_base base place >> get base name place
 
 module _ (functions : List FunctionTree) (go : Within) (cx : Context) where
   abbrev pub last_at : Value → SuffixTree → Does Value
-  last_at base s = rule.last_at functions go cx base s
+  last_at base s = rule.last_at by_slots functions go cx base s

@@ -7,20 +7,20 @@ use Rattle.js_tree.specs.Tree.{FunctionTree}
 use Rattle.heap_values.specs.declared.value.Value.{Value}
 use Rattle.heap_values.specs.declared.value.Value.TheVariants as value
 use Rattle.run_trees.specs.Runs.{pure, ◌>>=◌}
+use Rattle.js_evaluation.specs.Scoping.{by_slots}
 use Rattle.js_evaluation.specs.State.{Does}
 use Rattle.js_evaluation.specs.Objects.{Context}
 use Rattle.js_evaluation.specs.Conversions as convert
 use Rattle.js_evaluation.specs.Expressions as expression
 use Rattle.js_evaluation.specs.Expressions.{Reference}
-use Rattle.js_frames.specs.Rules as rule
-use Rattle.js_frames.specs.Rules.{Within}
+use Rattle.js_evaluation.specs.Parts.{Within, calls}
 
 module _ (functions : List FunctionTree) (go : Within) (cx : Context) where
   -- the read, the step and the write
   abbrev pub updated_at : UpdateForm → UpdateOp → Place → Reference → Does Value
   updated_at form op place r = do
-    old ← expression.read cx r
-    n ← convert.to_number (rule.call functions go cx) old place
-    m ← convert.stepped (rule.call functions go cx) op n place
-    _written ← expression.write cx r (value.Number m) place
-    pure (rule.given_by functions go cx form (value.Number n) (value.Number m))
+    old ← expression.read by_slots cx r
+    n ← convert.to_number (calls go) old place
+    m ← convert.stepped (calls go) op n place
+    _written ← expression.write by_slots cx r (value.Number m) place
+    pure (expression.given_by form (value.Number n) (value.Number m))

@@ -2,7 +2,8 @@
 ghost use Rattle.std.specs.Prelude.{◌≡◌, None, Some};
 ghost use Rattle.js_evaluation.specs.Conversions.{assigned_by};
 ghost use Rattle.js_frames.specs.Parts.{reference_of};
-ghost use Rattle.js_frames.specs.Rules as rule;
+ghost use Rattle.js_evaluation.specs.Expressions as rule;
+ghost use Rattle.js_evaluation.specs.Scoping.{by_slots};
 ghost use Rattle.js_frames.specs.RestOf.{after_expression};
 ghost use Rattle.js_frames.specs.declared.expression_frame.ExpressionFrame.TheVariants as of_expression;
 ghost use Rattle.js_machine.specs.Moves.{Moves, at};
@@ -42,7 +43,7 @@ pub fn assigned<'p>(
     value: &'p Expression,
     place: Place,
 ) -> Step<'p>
-    ensures { Moves (at machine.old rule.assigned place target.entry.now op value.entry.now) machine.old result machine.new }
+    ensures { Moves (at machine.old (rule.assigned by_slots) place target.entry.now op value.entry.now) machine.old result machine.new }
 {
     match machine.leaf_target(target)? {
         Some(key) => target_done(machine, op, target, value, place, &key),

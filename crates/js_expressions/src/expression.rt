@@ -1,8 +1,9 @@
 // An expression is begun.
 ghost use Rattle.run_trees.specs.Runs.{pure};
-ghost use Rattle.js_evaluation.specs.Objects.{read_name};
+ghost use Rattle.js_evaluation.specs.BySlots.{read_name};
 ghost use Rattle.js_frames.specs.Parts.{context_of};
-ghost use Rattle.js_frames.specs.Rules as rule;
+ghost use Rattle.js_evaluation.specs.Expressions as rule;
+ghost use Rattle.js_evaluation.specs.Scoping.{by_slots};
 ghost use Rattle.js_machine.specs.Moves.{Moves, at};
 
 use crate::assignments::assigned;
@@ -22,7 +23,7 @@ use js_tree::{BoundName, Expression, ExpressionNode, FunctionPart, Place};
 /// What an expression does, behind its charge.
 #[tactic(auto, unfolding(js_evaluation::specs::Expressions::expression_node))]
 pub fn expression_node<'p>(machine: &mut Machine<'p>, e: &'p Expression) -> Step<'p>
-    ensures { Moves (at machine.old rule.expression_node e.entry.now) machine.old result machine.new }
+    ensures { Moves (at machine.old (rule.expression_node by_slots) e.entry.now) machine.old result machine.new }
 {
     let place = e.place;
     match &e.node {
@@ -74,7 +75,7 @@ fn named<'p>(machine: &mut Machine<'p>, name: &'p BoundName, place: Place) -> St
 
 /// What an expression does as the target of a write, behind its charge: it is evaluated up to its reference.
 pub fn target_node<'p>(machine: &mut Machine<'p>, e: &'p Expression) -> Step<'p>
-    ensures { Moves (at machine.old rule.target_node e.entry.now) machine.old result machine.new }
+    ensures { Moves (at machine.old (rule.target_node by_slots) e.entry.now) machine.old result machine.new }
 {
     match &e.node {
         ExpressionNode::Suffixed(first, all) => {

@@ -1,7 +1,8 @@
 // Rows of binary operators (ECMA-262 5.1, sections 11.5 to 11.11).
 ghost use Rattle.std.specs.Prelude.{◌≡◌};
 ghost use Rattle.js_tree.specs.View.{operands_of};
-ghost use Rattle.js_frames.specs.Rules as rule;
+ghost use Rattle.js_evaluation.specs.Expressions as rule;
+ghost use Rattle.js_evaluation.specs.Scoping.{by_slots};
 ghost use Rattle.js_frames.specs.RestOf.{after_expression};
 ghost use Rattle.js_frames.specs.declared.expression_frame.ExpressionFrame.TheVariants as of_expression;
 ghost use Rattle.js_machine.specs.Moves.{Moves, at, evaluated};
@@ -21,7 +22,7 @@ pub fn chain<'p>(
     first: &'p Expression,
     operands: &'p [Operand],
 ) -> Step<'p>
-    ensures { Moves (at machine.old rule.chain first.entry.now (operands_of operands.entry.now)) machine.old result machine.new }
+    ensures { Moves (at machine.old (rule.chain by_slots) first.entry.now (operands_of operands.entry.now)) machine.old result machine.new }
 {
     let frame = ExpressionFrame::Row { rest: operands };
     machine.evaluate(first, Frame::Expression(frame))
@@ -33,7 +34,7 @@ pub fn row<'p>(
     first: &'p Expression,
     operands: &'p [Operand],
 ) -> Step<'p>
-    ensures { Moves (at machine.old rule.chain first.entry.now (operands_of operands.entry.now)) machine.old result machine.new }
+    ensures { Moves (at machine.old (rule.chain by_slots) first.entry.now (operands_of operands.entry.now)) machine.old result machine.new }
 {
     match machine.leaf(first)? {
         Some(value) => operands_from(machine, value, operands),
@@ -58,7 +59,7 @@ pub fn operands_from<'p>(
     value: Value,
     operands: &'p [Operand],
 ) -> Step<'p>
-    ensures { Moves (at machine.old rule.operands_from value (operands_of operands.entry.now)) machine.old result machine.new }
+    ensures { Moves (at machine.old (rule.operands_from by_slots) value (operands_of operands.entry.now)) machine.old result machine.new }
 {
     let mut value = value;
     let mut left = operands;

@@ -3,7 +3,8 @@ ghost use Rattle.js_tree.specs.declared.place.Place.{Place};
 ghost use Rattle.js_tree.specs.declared.operators.UnaryOp.TheVariants as operator;
 ghost use Rattle.heap_values.specs.declared.value.Value.{Value};
 ghost use Rattle.js_evaluation.specs.Conversions as conversion;
-ghost use Rattle.js_frames.specs.Rules as rule;
+ghost use Rattle.js_evaluation.specs.Expressions as rule;
+ghost use Rattle.js_evaluation.specs.Scoping.{by_slots};
 ghost use Rattle.js_frames.specs.RestOf.{after_expression};
 ghost use Rattle.js_frames.specs.declared.expression_frame.ExpressionFrame.TheVariants as of_expression;
 ghost use Rattle.js_frames.specs.declared.frame.Frame.TheVariants as of_frame;
@@ -28,7 +29,7 @@ pub fn unary<'p>(
     operand: &'p Expression,
     place: Place,
 ) -> Step<'p>
-    ensures { Moves (at machine.old rule.unary_value place op operand.entry.now) machine.old result machine.new }
+    ensures { Moves (at machine.old (rule.unary_value by_slots) place op operand.entry.now) machine.old result machine.new }
 {
     match op {
         UnaryOp::Delete => delete(machine, operand, place),
@@ -54,7 +55,7 @@ fn visit<'p>(
 
 /// `delete`: an expression that is no reference has nothing that could be deleted (ECMA-262 5.1, section 11.4.1).
 fn delete<'p>(machine: &mut Machine<'p>, operand: &'p Expression, place: Place) -> Step<'p>
-    ensures { Moves (at machine.old rule.deleted place operand.entry.now) machine.old result machine.new }
+    ensures { Moves (at machine.old (rule.deleted by_slots) place operand.entry.now) machine.old result machine.new }
 {
     match &operand.node {
         ExpressionNode::Name(name) => {
@@ -78,7 +79,7 @@ fn delete_part<'p>(machine: &mut Machine<'p>, operand: &'p Expression, place: Pl
 
 /// `typeof`: a name is not read where it stands for nothing (ECMA-262 5.1, section 11.4.3).
 fn type_of<'p>(machine: &mut Machine<'p>, operand: &'p Expression) -> Step<'p>
-    ensures { (place : Place) → Moves (at machine.old rule.unary_value place operator.TypeOf operand.entry.now) machine.old result machine.new }
+    ensures { (place : Place) → Moves (at machine.old (rule.unary_value by_slots) place operator.TypeOf operand.entry.now) machine.old result machine.new }
 {
     match &operand.node {
         ExpressionNode::Name(name) => {

@@ -1,10 +1,8 @@
 // `++` and `--` (ECMA-262 5.1, sections 11.3, 11.4.4 and 11.4.5).
-ghost use Rattle.std.specs.Prelude.{◌≡◌, List};
-ghost use Rattle.js_tree.specs.Tree.{FunctionTree};
+ghost use Rattle.std.specs.Prelude.{◌≡◌};
 ghost use Rattle.heap_values.specs.declared.value.Value.TheVariants as value;
-ghost use Rattle.js_evaluation.specs.Objects.{Context};
-ghost use Rattle.js_frames.specs.Rules as rule;
-ghost use Rattle.js_frames.specs.Rules.{Within};
+ghost use Rattle.js_evaluation.specs.Expressions as rule;
+ghost use Rattle.js_evaluation.specs.Scoping.{by_slots};
 ghost use Rattle.js_frames.specs.RestOf.{after_expression, with_primitive};
 ghost use Rattle.js_frames.specs.declared.expression_frame.ExpressionFrame.TheVariants as of_expression;
 ghost use Rattle.js_frames.specs.declared.wanted.Wanted.TheVariants as wanted;
@@ -27,7 +25,7 @@ pub fn updated<'p>(
     target: &'p Expression,
     place: Place,
 ) -> Step<'p>
-    ensures { Moves (at machine.old rule.updated place form op target.entry.now) machine.old result machine.new }
+    ensures { Moves (at machine.old (rule.updated by_slots) place form op target.entry.now) machine.old result machine.new }
 {
     match machine.leaf_target(target)? {
         Some(key) => update_done(machine, form, op, target, place, &key),
@@ -95,7 +93,7 @@ pub fn update_by<'p>(
 
 /// The new number where the operator stands before its target, and the old one where it stands behind it.
 fn given_by(form: UpdateForm, old: Whole, new: Whole) -> Value
-    ensures { (functions : List FunctionTree) (go : Within) (cx : Context) → result ≡ rule.given_by functions go cx form (value.Number old) (value.Number new) }
+    ensures { result ≡ rule.given_by form (value.Number old) (value.Number new) }
 {
     match form {
         UpdateForm::Prefix => Value::Number(new),

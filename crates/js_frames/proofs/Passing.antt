@@ -10,7 +10,7 @@ use Rattle.heap_values.specs.declared.value.Value.{Value}
 use Rattle.heap_values.specs.declared.value.Value.TheVariants as value
 use Rattle.run_trees.specs.declared.abrupt.Abrupt.TheVariants as ending
 use Rattle.run_trees.specs.Runs.{onward, pure, returned_to}
-use Rattle.js_evaluation.specs.State.{Stop, Does}
+use Rattle.js_evaluation.specs.State.{Stop, Does, AfterValue}
 use Rattle.js_evaluation.specs.Objects.{Context}
 use Rattle.js_frames.specs.declared.frame.EndKind.{EndKind}
 use Rattle.js_frames.specs.declared.frame.EntryFrame.{EntryFrame}
@@ -23,8 +23,10 @@ use Rattle.js_frames.specs.declared.statement_frame.StatementFrame.TheVariants a
 use Rattle.js_frames.specs.declared.statement_frame.LoopFrame.{LoopFrame}
 use Rattle.js_frames.specs.declared.statement_frame.LoopFrame.TheVariants as of_loop
 use Rattle.js_frames.specs.Parts.{context_of}
-use Rattle.js_frames.specs.Rules as rule
-use Rattle.js_frames.specs.Rules.{Within, AfterValue}
+use Rattle.js_evaluation.specs.Entries as entry
+use Rattle.js_evaluation.specs.Statements as statement
+use Rattle.js_evaluation.specs.Parts.{Within}
+use Rattle.js_evaluation.specs.Scoping.{by_slots}
 use Rattle.js_frames.specs.RestOf.{in_switch, turned_to, rest_of_statement, rest_of_loop, rest_of_entry, rest_of_frame, within, rest_of, while_turns, do_next, for_next, names_from}
 use Rattle.js_frames.specs.Unwinding.{kind_of, is_throw, is_break, is_return, turns, statement_takes, loop_takes, takes, unwound}
 
@@ -47,12 +49,12 @@ module _ (functions : List FunctionTree) (go : Within) (cx : Context) where
   by_call (ending.Broken b) after h = refl
   by_call (ending.Continued b) after h = refl
 
-  by_last : (last : Option (Box StatementTree Global)) (after : AfterValue) → is_some last ≡ false → rule.after_last functions go cx (optional_statement last) after ≡ after
+  by_last : (last : Option (Box StatementTree Global)) (after : AfterValue) → is_some last ≡ false → statement.after_last by_slots functions go cx (optional_statement last) after ≡ after
   by_last None after h = refl
   by_last (Some s) after h = cc
 
   by_handler : (place : Place) (handler : Option (Box Catch Global)) (stop : Stop) (after : AfterValue)
-      → (is_some handler && is_throw (kind_of stop)) ≡ false → rule.after_block functions go cx place (optional_catch handler) after (Err stop) ≡ after (Err stop)
+      → (is_some handler && is_throw (kind_of stop)) ≡ false → statement.after_block by_slots functions go cx place (optional_catch handler) after (Err stop) ≡ after (Err stop)
   by_handler place None stop after h = refl
   by_handler place (Some c) (ending.Thrown t) after h = cc
   by_handler place (Some c) (ending.Returned v) after h = refl
@@ -68,7 +70,7 @@ module _ (functions : List FunctionTree) (go : Within) (cx : Context) where
   by_statement (of_statement.SwitchBody body rest) after stop h = by_switch stop after h
   by_statement (of_statement.TryBlock place handler last) after stop h =
       let parts = both_false (is_some last.now) (is_some handler.now && is_throw (kind_of stop)) h in
-      by_handler place handler.now stop (rule.after_last functions go cx (optional_statement last.now) after) parts.1
+      by_handler place handler.now stop (statement.after_last by_slots functions go cx (optional_statement last.now) after) parts.1
       ∙ ap (λ (z : AfterValue). z (Err stop)) (by_last last.now after parts.0)
   by_statement (of_statement.Handler last) after stop h = ap (λ (z : AfterValue). z (Err stop)) (by_last last.now after h)
   by_statement f after stop h = refl
@@ -83,7 +85,7 @@ module _ (functions : List FunctionTree) (go : Within) (cx : Context) where
   by_entry : (f : EntryFrame) (after : AfterValue) (stop : Stop) → is_return (kind_of stop) ≡ false → rest_of_entry functions go cx f after (Err stop) ≡ after (Err stop)
   by_entry (of_entry.Body rest) after stop h = by_call stop after h
   by_entry (of_entry.Construct made rest) after stop h =
-      by_call stop (onward (λ v. pure (rule.object_or functions go cx (value.Object made) v)) after) h
+      by_call stop (onward (λ v. pure (entry.object_or (value.Object made) v)) after) h
 
   pub passes : (f : Frame) (after : AfterValue) (stop : Stop) → takes f (kind_of stop) ≡ false → rest_of_frame functions go cx f after (Err stop) ≡ after (Err stop)
   passes frame.Hold after stop h = refl

@@ -12,8 +12,9 @@ use Rattle.js_convert.specs.Operators.{operator_value, strictly_equal, is_object
 use Rattle.js_convert.specs.Texts.{text_of}
 use Rattle.run_trees.specs.declared.abrupt.Abrupt.TheVariants as ending
 use Rattle.run_trees.specs.Runs.{ends, pure, abrupt, reading, onward, ◌>>=◌, ◌>>◌, turned, broken_at, returned_to}
-use Rattle.js_evaluation.specs.State.{Does, define, set_base, the_base, global_object, throw}
-use Rattle.js_evaluation.specs.Objects.{Context, get, test_base, delete_property, delete_bound, read_or_undefined, write_name, has_property}
+use Rattle.js_evaluation.specs.BySlots.{delete_bound, read_or_undefined, write_name}
+use Rattle.js_evaluation.specs.State.{Does, define, set_base, the_base, global_object, throw, AfterValue}
+use Rattle.js_evaluation.specs.Objects.{Context, get, test_base, delete_property, has_property}
 use Rattle.js_evaluation.specs.Conversions as convert
 use Rattle.js_evaluation.specs.Handed as handed
 use Rattle.js_evaluation.specs.Natives as native
@@ -44,76 +45,77 @@ use Rattle.js_frames.specs.declared.wanted.Operated.TheVariants as operated
 use Rattle.js_frames.specs.declared.wanted.Wanted.{Wanted}
 use Rattle.js_frames.specs.declared.wanted.Wanted.TheVariants as wanted
 use Rattle.js_frames.specs.Parts.{context_of, reference_of, names_of}
-use Rattle.js_frames.specs.Rules as rule
-use Rattle.js_frames.specs.Rules.{Within, AfterValue}
+use Rattle.js_evaluation.specs.Entries as entry
+use Rattle.js_evaluation.specs.Parts.{Within, calls, visit, execute}
+use Rattle.js_evaluation.specs.Scoping.{by_slots}
 use Rattle.js_evaluation.specs.declared.limits.TheConstants.{MOST_OPEN}
 
 -- functions: those of the script; go: evaluation of the parts within; cx: where the code of the open part runs
 module _ (functions : List FunctionTree) (go : Within) (cx : Context) where
   -- suffixes, for the value that the last one gives or for what it refers to
   abbrev pub suffixes_by : Aim → Value → Value → Suffixes → Does Value
-  suffixes_by aim.Value = rule.suffixes_from functions go cx
-  suffixes_by aim.Target = rule.target_suffixes functions go cx
+  suffixes_by aim.Value = expression.suffixes_from by_slots functions go cx
+  suffixes_by aim.Target = expression.target_suffixes by_slots functions go cx
 
   -- ---- what is done with a primitive value (8.12.8)
 
   abbrev pub after_operator : Operated → Value → Does Value
-  after_operator (operated.Row rest) v = rule.operands_from functions go cx v (operands_of rest.now)
-  after_operator (operated.Write r place) v = expression.write cx (reference_of r) v place >> pure v
+  after_operator (operated.Row rest) v = expression.operands_from by_slots functions go cx v (operands_of rest.now)
+  after_operator (operated.Write r place) v = expression.write by_slots cx (reference_of r) v place >> pure v
 
   -- both sides of an operator are primitive values
   abbrev pub operate : BinaryOp → Value → Value → Place → Operated → Does Value
-  operate o a b place next = convert.operated (rule.call functions go cx) (operator_value o a b) place >>= after_operator next
+  operate o a b place next = convert.operated (calls go) (operator_value o a b) place >>= after_operator next
 
   abbrev pub with_primitive : Wanted → Value → Does Value
   with_primitive (wanted.Plus place) v =
-      convert.number_or_fault (rule.call functions go cx) (numeric_of v) place >>= (λ n. pure (value.Number n))
+      convert.number_or_fault (calls go) (numeric_of v) place >>= (λ n. pure (value.Number n))
   with_primitive (wanted.Minus place) v =
-      convert.number_or_fault (rule.call functions go cx) (numeric_of v) place >>= (λ n. pure (value.Number (neg_ℤ n)))
+      convert.number_or_fault (calls go) (numeric_of v) place >>= (λ n. pure (value.Number (neg_ℤ n)))
   with_primitive (wanted.BitNot place) v =
-      convert.bits_or_fault (rule.call functions go cx) (numeric_of v) place >>= (λ n. pure (value.Number (neg_ℤ n -ℤ pos 1)))
+      convert.bits_or_fault (calls go) (numeric_of v) place >>= (λ n. pure (value.Number (neg_ℤ n -ℤ pos 1)))
   with_primitive (wanted.Update form op r place) v = do
-    n ← convert.number_or_fault (rule.call functions go cx) (numeric_of v) place
-    m ← convert.stepped (rule.call functions go cx) op n place
-    _written ← expression.write cx (reference_of r) (value.Number m) place
-    pure (rule.given_by functions go cx form (value.Number n) (value.Number m))
+    n ← convert.number_or_fault (calls go) (numeric_of v) place
+    m ← convert.stepped (calls go) op n place
+    _written ← expression.write by_slots cx (reference_of r) (value.Number m) place
+    pure (expression.given_by form (value.Number n) (value.Number m))
   with_primitive (wanted.Index purpose base place rest) v =
       get base (text_of v) place >>= (λ w. suffixes_by purpose base w (suffixes_of rest.now))
   with_primitive (wanted.Key base) v = set_base base >> pure v
   with_primitive (wanted.In object place next) v = has_property object (text_of v) place >>= after_operator next
   with_primitive (wanted.Left op right place next) v =
-      convert.to_primitive (rule.call functions go cx) convert.number_methods right place >>= (λ b. operate op v b place next)
+      convert.to_primitive (calls go) convert.number_methods right place >>= (λ b. operate op v b place next)
   with_primitive (wanted.Right op left place next) v = operate op left v place next
   with_primitive (wanted.ErrorName error place) v =
-      get (value.Object error) (codes "message") place >>= (λ m. native.text_or (rule.call functions go cx) [] m place
+      get (value.Object error) (codes "message") place >>= (λ m. native.text_or (calls go) [] m place
       >>= (λ message. handed.gives_text (native.joined (text_of v) message) place))
   with_primitive (wanted.ErrorMessage name place) v = handed.gives_text (native.joined name (text_of v)) place
   with_primitive (wanted.Handed n left done handed place) v =
       native.settled (table.conversion_at n (length done)) v place
-      >>= (λ w. native.converted_from (rule.call functions go cx) n left (done ++ w ∷ []) handed place)
+      >>= (λ w. native.converted_from (calls go) n left (done ++ w ∷ []) handed place)
   with_primitive (wanted.Element left count array texts separator place) v =
-      native.joined_from (rule.call functions go cx) left count array (texts ++ text_of v ∷ []) separator place
+      native.joined_from (calls go) left count array (texts ++ text_of v ∷ []) separator place
 
   -- ---- expressions (11)
 
   abbrev pub after_expression : ExpressionFrame → Value → Does Value
   after_expression (of_expression.Item array count rest place) v =
-      define array (rule.index_name functions go cx count) v true true place
-      >> rule.items_from functions go cx place array (count + 1) false (items_of rest.now)
+      define array (expression.index_name count) v true true place
+      >> expression.items_from by_slots functions go cx place array (count + 1) false (items_of rest.now)
   after_expression (of_expression.Property object name rest place) v =
-      define object name.now v true true place >> rule.properties_from functions go cx place object (properties_of rest.now)
+      define object name.now v true true place >> expression.properties_from by_slots functions go cx place object (properties_of rest.now)
   after_expression (of_expression.Callee left place) v =
-      rule.arguments_from functions go cx [] (expressions_of left.now) >>= (λ vs. rule.constructed functions go cx v vs place)
+      expression.arguments_from by_slots functions go cx [] (expressions_of left.now) >>= (λ vs. expression.constructed by_slots functions go v vs place)
   after_expression (of_expression.NewArgument callee done left place) v =
-      rule.arguments_from functions go cx (done ++ v ∷ []) (expressions_of left.now)
-      >>= (λ vs. rule.constructed functions go cx callee vs place)
+      expression.arguments_from by_slots functions go cx (done ++ v ∷ []) (expressions_of left.now)
+      >>= (λ vs. expression.constructed by_slots functions go callee vs place)
   after_expression (of_expression.UpdateTarget form op target place) key = do
     base ← the_base
-    old ← expression.read cx (expression.referred target.now key base)
-    n ← convert.to_number (rule.call functions go cx) old place
-    m ← convert.stepped (rule.call functions go cx) op n place
-    _written ← expression.write cx (expression.referred target.now key base) (value.Number m) place
-    pure (rule.given_by functions go cx form (value.Number n) (value.Number m))
+    old ← expression.read by_slots cx (expression.referred target.now key base)
+    n ← convert.to_number (calls go) old place
+    m ← convert.stepped (calls go) op n place
+    _written ← expression.write by_slots cx (expression.referred target.now key base) (value.Number m) place
+    pure (expression.given_by form (value.Number n) (value.Number m))
   after_expression (of_expression.DeleteName name place) v = delete_bound name.now.name name.now.bound place
   after_expression (of_expression.DeleteTarget place) key = the_base >>= (λ base. delete_property base (text_of key) place)
   after_expression of_expression.DeleteValue v = pure (value.Bool true)
@@ -122,41 +124,41 @@ module _ (functions : List FunctionTree) (go : Within) (cx : Context) where
       read_or_undefined cx name.now place >>= (λ w. reading (λ s. pure (value.Text (convert.type_text s.heap w))))
   after_expression of_expression.TypeOf v = reading (λ s. pure (value.Text (convert.type_text s.heap v)))
   after_expression (of_expression.Plus place) v =
-      convert.to_number (rule.call functions go cx) v place >>= (λ n. pure (value.Number n))
+      convert.to_number (calls go) v place >>= (λ n. pure (value.Number n))
   after_expression (of_expression.Minus place) v =
-      convert.to_number (rule.call functions go cx) v place >>= (λ n. pure (value.Number (neg_ℤ n)))
+      convert.to_number (calls go) v place >>= (λ n. pure (value.Number (neg_ℤ n)))
   after_expression (of_expression.BitNot place) v =
-      convert.to_bits (rule.call functions go cx) v place >>= (λ n. pure (value.Number (neg_ℤ n -ℤ pos 1)))
+      convert.to_bits (calls go) v place >>= (λ n. pure (value.Number (neg_ℤ n -ℤ pos 1)))
   after_expression of_expression.Not v = pure (value.Bool (not (truth_of v)))
-  after_expression (of_expression.Row rest) v = rule.operands_from functions go cx v (operands_of rest.now)
+  after_expression (of_expression.Row rest) v = expression.operands_from by_slots functions go cx v (operands_of rest.now)
   after_expression (of_expression.Operand op left place rest) v =
-      convert.binary (rule.call functions go cx) op left v place
-      >>= (λ w. rule.operands_from functions go cx w (operands_of rest.now))
+      convert.binary (calls go) op left v place
+      >>= (λ w. expression.operands_from by_slots functions go cx w (operands_of rest.now))
   after_expression (of_expression.Conditional held otherwise) v =
-      if truth_of v then rule.visit functions go cx held.now else rule.visit functions go cx otherwise.now
+      if truth_of v then visit go cx held.now else visit go cx otherwise.now
   after_expression (of_expression.AssignTarget op target e place) key = the_base >>= (λ base.
-      rule.assigned_with functions go cx place (expression.referred target.now key base) (convert.assigned_by op) e.now
-      >>= (λ v. expression.write cx (expression.referred target.now key base) v place >> pure v))
-  after_expression (of_expression.AssignValue r place) v = expression.write cx (reference_of r) v place >> pure v
+      expression.assigned_with by_slots functions go cx place (expression.referred target.now key base) (convert.assigned_by op) e.now
+      >>= (λ v. expression.write by_slots cx (expression.referred target.now key base) v place >> pure v))
+  after_expression (of_expression.AssignValue r place) v = expression.write by_slots cx (reference_of r) v place >> pure v
   after_expression (of_expression.AssignOperand op old r place) v =
-      convert.binary (rule.call functions go cx) op old v place
-      >>= (λ w. expression.write cx (reference_of r) w place >> pure w)
-  after_expression (of_expression.Comma rest) v = rule.comma_from functions go cx v (expressions_of rest.now)
+      convert.binary (calls go) op old v place
+      >>= (λ w. expression.write by_slots cx (reference_of r) w place >> pure w)
+  after_expression (of_expression.Comma rest) v = expression.comma_from by_slots functions go cx v (expressions_of rest.now)
 
   -- ---- suffixes (11.2)
 
   abbrev pub after_suffix : SuffixFrame → Value → Does Value
   after_suffix (of_suffix.First purpose first suffixes) v =
-      rule.this_behind functions go cx first.now >>= (λ this. suffixes_by purpose this v (suffixes_of suffixes.now))
+      expression.this_behind first.now >>= (λ this. suffixes_by purpose this v (suffixes_of suffixes.now))
   after_suffix (of_suffix.Index purpose base place rest) v =
-      test_base base place >> convert.to_primitive (rule.call functions go cx) convert.text_methods v place
+      test_base base place >> convert.to_primitive (calls go) convert.text_methods v place
       >>= (λ key. get base (text_of key) place >>= (λ w. suffixes_by purpose base w (suffixes_of rest.now)))
   after_suffix (of_suffix.Key base place) v =
-      test_base base place >> convert.to_primitive (rule.call functions go cx) convert.text_methods v place
+      test_base base place >> convert.to_primitive (calls go) convert.text_methods v place
       >>= (λ key. set_base base >> pure key)
   after_suffix (of_suffix.Argument call done left) v =
-      rule.arguments_from functions go cx (done ++ v ∷ []) (expressions_of left.now)
-      >>= (λ vs. convert.call_value (rule.call functions go cx) call.callee call.this vs call.place
+      expression.arguments_from by_slots functions go cx (done ++ v ∷ []) (expressions_of left.now)
+      >>= (λ vs. convert.call_value (calls go) call.callee call.this vs call.place
       >>= (λ w. suffixes_by call.aim global_object w (suffixes_of call.rest.now)))
   after_suffix (of_suffix.Called purpose rest) v = suffixes_by purpose global_object v (suffixes_of rest.now)
 
@@ -168,49 +170,49 @@ module _ (functions : List FunctionTree) (go : Within) (cx : Context) where
 
   abbrev pub rest_of_statement : StatementFrame → AfterValue → AfterValue
   rest_of_statement (of_statement.Statements rest) after =
-      onward (λ _. rule.statements_from functions go cx (statements_of rest.now)) after
+      onward (λ _. statement.statements_from by_slots functions go cx (statements_of rest.now)) after
   rest_of_statement of_statement.Evaluate after = onward (λ _. statement.nothing) after
   rest_of_statement (of_statement.Var name place rest) after =
-      onward (λ v. write_name cx name.now v place >> rule.variables_from functions go cx place (declarations_of rest.now)) after
+      onward (λ v. write_name cx name.now v place >> statement.variables_from by_slots functions go cx place (declarations_of rest.now)) after
   rest_of_statement (of_statement.Branch body rest last) after =
-      onward (λ v. if truth_of v then rule.execute functions go cx body.now
-      else rule.branches_from functions go cx (branches_of rest.now) (optional_statement last.now)) after
+      onward (λ v. if truth_of v then execute go cx body.now
+      else statement.branches_from by_slots functions go cx (branches_of rest.now) (optional_statement last.now)) after
   rest_of_statement of_statement.Return after = onward (λ v. abrupt (ending.Returned v)) after
   rest_of_statement (of_statement.Throw place) after = onward (λ v. throw v place) after
   rest_of_statement (of_statement.SwitchValue clauses) after =
-      onward (λ v after. rule.from_match functions go cx v (clauses_of clauses.now) (clauses_of clauses.now) (in_switch after)) after
+      onward (λ v after. statement.from_match by_slots functions go cx v (clauses_of clauses.now) (clauses_of clauses.now) (in_switch after)) after
   rest_of_statement (of_statement.SwitchTest v all body rest) after =
       onward (λ w. if strictly_equal v w
-      then rule.statements_from functions go cx (statements_of body.now) >> rule.clauses_from functions go cx (clauses_of rest.now)
-      else rule.from_match functions go cx v (clauses_of all.now) (clauses_of rest.now)) (in_switch after)
+      then statement.statements_from by_slots functions go cx (statements_of body.now) >> statement.clauses_from by_slots functions go cx (clauses_of rest.now)
+      else statement.from_match by_slots functions go cx v (clauses_of all.now) (clauses_of rest.now)) (in_switch after)
   rest_of_statement (of_statement.SwitchBody body rest) after =
-      onward (λ _. rule.statements_from functions go cx (statements_of body.now) >> rule.clauses_from functions go cx (clauses_of rest.now)) (in_switch after)
+      onward (λ _. statement.statements_from by_slots functions go cx (statements_of body.now) >> statement.clauses_from by_slots functions go cx (clauses_of rest.now)) (in_switch after)
   rest_of_statement (of_statement.TryBlock place handler last) after =
-      rule.after_block functions go cx place (optional_catch handler.now) (rule.after_last functions go cx (optional_statement last.now) after)
-  rest_of_statement (of_statement.Handler last) after = rule.after_last functions go cx (optional_statement last.now) after
+      statement.after_block by_slots functions go cx place (optional_catch handler.now) (statement.after_last by_slots functions go cx (optional_statement last.now) after)
+  rest_of_statement (of_statement.Handler last) after = statement.after_last by_slots functions go cx (optional_statement last.now) after
   rest_of_statement (of_statement.Last end) after = onward (λ _. ends end) after
 
   -- ---- loops (12.6)
 
   abbrev pub while_turns : ℕ → WhileLoop → Does Value
-  while_turns n l = rule.while_turns functions go cx n l.place l.condition.now l.body.now
+  while_turns n l = statement.while_turns by_slots functions go cx n l.place l.condition.now l.body.now
 
   abbrev pub do_turns : ℕ → WhileLoop → Does Value
-  do_turns n l = rule.do_turns functions go cx n l.place l.body.now l.condition.now
+  do_turns n l = statement.do_turns by_slots functions go cx n l.place l.body.now l.condition.now
 
   -- the condition of a `do` loop, and then the next turn
   abbrev pub do_next : ℕ → WhileLoop → Does Value
-  do_next n l = rule.visit functions go cx l.condition.now >>= (λ v. if truth_of v then do_turns n l else statement.nothing)
+  do_next n l = visit go cx l.condition.now >>= (λ v. if truth_of v then do_turns n l else statement.nothing)
 
   abbrev pub for_turns : ℕ → ForLoop → Does Value
-  for_turns n l = rule.for_turns functions go cx n l.place (optional_box l.condition.now) (optional_box l.step.now) l.body.now
+  for_turns n l = statement.for_turns by_slots functions go cx n l.place (optional_box l.condition.now) (optional_box l.step.now) l.body.now
 
   -- the step of a `for` loop, and then the next turn
   abbrev pub for_next : ℕ → ForLoop → Does Value
-  for_next n l = rule.evaluated_if functions go cx (optional_box l.step.now) >> for_turns n l
+  for_next n l = statement.evaluated_if by_slots functions go cx (optional_box l.step.now) >> for_turns n l
 
   abbrev pub names_from : ForInLoop → Value → List (List ℕ) → Does Value
-  names_from l object names = rule.names_from functions go cx l.place (target_of l.target.now) l.body.now object names
+  names_from l object names = statement.names_from by_slots functions go cx l.place (target_of l.target.now) l.body.now object names
 
   -- the body of a loop, and then the next turn
   abbrev pub turned_to : Does Value → AfterValue → AfterValue
@@ -218,36 +220,36 @@ module _ (functions : List FunctionTree) (go : Within) (cx : Context) where
 
   abbrev pub rest_of_loop : LoopFrame → AfterValue → AfterValue
   rest_of_loop (of_loop.WhileCondition n l) after =
-      onward (λ v. if truth_of v then (λ after. rule.execute functions go cx l.body.now (turned_to (while_turns n l) after)) else statement.nothing) after
+      onward (λ v. if truth_of v then (λ after. execute go cx l.body.now (turned_to (while_turns n l) after)) else statement.nothing) after
   rest_of_loop (of_loop.WhileBody n l) after = turned_to (while_turns n l) after
   rest_of_loop (of_loop.DoBody n l) after = turned_to (do_next n l) after
   rest_of_loop (of_loop.DoCondition n l) after = onward (λ v. if truth_of v then do_turns n l else statement.nothing) after
   rest_of_loop (of_loop.ForStart l) after = onward (λ _. reading (λ s. for_turns (suc s.fuel) l)) after
   rest_of_loop (of_loop.ForCondition n l) after =
       onward (λ v. if truth_of v
-      then (λ after. rule.execute functions go cx l.body.now (turned_to (for_next n l) after))
+      then (λ after. execute go cx l.body.now (turned_to (for_next n l) after))
       else statement.nothing) after
   rest_of_loop (of_loop.ForBody n l) after = turned_to (for_next n l) after
   rest_of_loop (of_loop.ForStep n l) after = onward (λ _. for_turns n l) after
   rest_of_loop (of_loop.ForInFirst name object l) after =
-      onward (λ v. write_name cx name.now v l.place >> rule.visit functions go cx object.now >>= (λ w.
-      rule.listed_names functions go cx w >>= (λ names. rule.charged_names functions go cx l.place names >> names_from l w names))) after
+      onward (λ v. write_name cx name.now v l.place >> visit go cx object.now >>= (λ w.
+      statement.listed_names w >>= (λ names. statement.charged_names l.place names >> names_from l w names))) after
   rest_of_loop (of_loop.ForInObject l) after =
-      onward (λ w. rule.listed_names functions go cx w >>= (λ names.
-      rule.charged_names functions go cx l.place names >> names_from l w names)) after
+      onward (λ w. statement.listed_names w >>= (λ names.
+      statement.charged_names l.place names >> names_from l w names)) after
   rest_of_loop (of_loop.ForInTarget target name object names l) after =
-      onward (λ key. the_base >>= (λ base. expression.write cx (expression.referred target.now key base) (value.Text name) l.place)
-      >> (λ after. rule.execute functions go cx l.body.now (turned_to (names_from l object names) after))) after
+      onward (λ key. the_base >>= (λ base. expression.write by_slots cx (expression.referred target.now key base) (value.Text name) l.place)
+      >> (λ after. execute go cx l.body.now (turned_to (names_from l object names) after))) after
   rest_of_loop (of_loop.ForInBody object names l) after = turned_to (names_from l object names) after
 
   -- ---- entries (13.2)
 
   abbrev pub rest_of_entry : EntryFrame → AfterValue → AfterValue
   rest_of_entry (of_entry.Body rest) after =
-      onward (λ _. rule.statements_from functions go cx (statements_of rest.now)) (returned_to value.Undefined after)
+      onward (λ _. statement.statements_from by_slots functions go cx (statements_of rest.now)) (returned_to value.Undefined after)
   rest_of_entry (of_entry.Construct made rest) after =
-      onward (λ _. rule.statements_from functions go cx (statements_of rest.now))
-      (returned_to value.Undefined (onward (λ v. pure (rule.object_or functions go cx (value.Object made) v)) after))
+      onward (λ _. statement.statements_from by_slots functions go cx (statements_of rest.now))
+      (returned_to value.Undefined (onward (λ v. pure (entry.object_or (value.Object made) v)) after))
 
   -- ---- all of them
 
@@ -259,7 +261,7 @@ module _ (functions : List FunctionTree) (go : Within) (cx : Context) where
   rest_of_frame (frame.Loop f) after = rest_of_loop f after
   rest_of_frame (frame.Entry f) after = rest_of_entry f after
   rest_of_frame (frame.Primitive object ms place w) after =
-      onward (λ v. if is_object v then convert.primitive_by (rule.call functions go cx) (names_of ms) object place else pure v)
+      onward (λ v. if is_object v then convert.primitive_by (calls go) (names_of ms) object place else pure v)
       (onward (with_primitive w) after)
 
 -- ---- the whole stack
@@ -271,7 +273,7 @@ room (f ∷ fs) = room fs - 1
 
 -- evaluation of the parts within one that is open on these
 abbrev pub within : List FunctionTree → List Open → Within
-within functions fs = evaluation functions (room fs - 1)
+within functions fs = evaluation by_slots functions (room fs - 1)
 
 -- What all of them make of an end, the innermost first; last: what comes after the outermost.
 abbrev pub rest_of : List FunctionTree → AfterValue → List Open → AfterValue

@@ -10,10 +10,12 @@ use Rattle.heap_values.specs.declared.value.Value.TheVariants as value
 use Rattle.object_heap.specs.Fresh.{built_in_number}
 use Rattle.object_heap.specs.Heap.{found_of}
 use Rattle.run_trees.specs.Runs.{◌>>=◌}
+use Rattle.js_evaluation.specs.Scoping.{by_slots}
+use Rattle.js_evaluation.specs.Parts.{call_part, outside}
 use Rattle.js_evaluation.specs.State.{Stop, Does, test_text, built_in_object, global_object}
 use Rattle.js_evaluation.specs.Objects.{global_id}
 use Rattle.js_evaluation.specs.Evaluation as def
-use Rattle.js_evaluation.specs.Evaluation.{evaluation, call_part, called_for, entry_of, outside}
+use Rattle.js_evaluation.specs.Evaluation.{evaluation, called_for, entry_of}
 use Rattle.js_evaluation.specs.declared.fault.FaultCode.TheVariants as code
 use Rattle.js_host.specs.Seen.{Seen}
 use Rattle.run_trees.specs.RunTree.{walk}
@@ -35,13 +37,13 @@ use Rattle.js_evaluation.specs.declared.limits.TheConstants.{MOST_OPEN}
 module _ (functions : List FunctionTree) (entry : def.Entry) (m : Machine) (before : Seen) (r : Result (Result Value Stop) Cut) (m' : Machine) (after : Seen) where
   -- what the name of the script's function stands for is called
   pub found_runs : (f : Option ObjectId) → f ≡ entry_of m.state.heap (found_of m.state.heap global_id (codes "FindProxyForURL"))
-      → RunsBy (called_for functions entry f) m before r m' after → RunsBy (called functions entry) m before r m' after
+      → RunsBy (called_for by_slots functions entry f) m before r m' after → RunsBy (called functions entry) m before r m' after
   found_runs f is k last =
-      subst (λ (g : Option ObjectId). Reaches last (walk (called_for functions entry g last (run_state m.state)) before) r m' after) is (k last)
+      subst (λ (g : Option ObjectId). Reaches last (walk (called_for by_slots functions entry g last (run_state m.state)) before) r m' after) is (k last)
 
 -- there is none
 not_found : (functions : List FunctionTree) (entry : def.Entry) (m : Machine) (before : Seen)
-    → RunsBy (called_for functions entry None) m before (Err (cut.Halt (halt.Fault code.NoEntry outside))) m before
+    → RunsBy (called_for by_slots functions entry None) m before (Err (cut.Halt (halt.Fault code.NoEntry outside))) m before
 unfolding walk
 not_found functions entry m before last = refl
 
@@ -60,23 +62,23 @@ module _ (functions : List FunctionTree) (entry : def.Entry) (f : ObjectId) (m :
   of_host = test_text entry.host outside
 
   abbrev entered : Does Value
-  entered = evaluation functions MOST_OPEN (call_part f global_object (value.Text entry.url ∷ value.Text entry.host ∷ []) outside)
+  entered = evaluation by_slots functions MOST_OPEN (call_part f global_object (value.Text entry.url ∷ value.Text entry.host ∷ []) outside)
 
   -- both texts are short enough
   pub tested_runs : (m' : Machine) (after : Seen) → Works of_url m.state.heap (Ok tt) m.state.heap → Works of_host m.state.heap (Ok tt) m.state.heap
-      → RunsBy entered m before r m' after → RunsBy (called_for functions entry (Some f)) m before r m' after
+      → RunsBy entered m before r m' after → RunsBy (called_for by_slots functions entry (Some f)) m before r m' after
   tested_runs m' after url host k =
       heap_then (of_url >>= (λ _. of_host)) (λ _. entered) m before m.state.heap tt r m' after
       (chained of_url (λ _. of_host) m.state.heap m.state.heap tt (Ok tt) m.state.heap url host) k
 
   -- one of them isn't
-  pub url_stops : (e : Halt) → IsErrAnd r (λ x. x ≡ cut.Halt e) → Works of_url m.state.heap (Err e) m.state.heap → RunsBy (called_for functions entry (Some f)) m before r m before
+  pub url_stops : (e : Halt) → IsErrAnd r (λ x. x ≡ cut.Halt e) → Works of_url m.state.heap (Err e) m.state.heap → RunsBy (called_for by_slots functions entry (Some f)) m before r m before
   url_stops e i url =
       heap_stops (of_url >>= (λ _. of_host)) (λ _. entered) m before m.state.heap r e i
       (stops of_url (λ _. of_host) m.state.heap m.state.heap (Err e) e refl url)
 
   pub host_stops : (e : Halt) → IsErrAnd r (λ x. x ≡ cut.Halt e) → Works of_url m.state.heap (Ok tt) m.state.heap → Works of_host m.state.heap (Err e) m.state.heap
-      → RunsBy (called_for functions entry (Some f)) m before r m before
+      → RunsBy (called_for by_slots functions entry (Some f)) m before r m before
   host_stops e i url host =
       heap_stops (of_url >>= (λ _. of_host)) (λ _. entered) m before m.state.heap r e i
       (chained of_url (λ _. of_host) m.state.heap m.state.heap tt (Err e) m.state.heap url host)
@@ -85,9 +87,9 @@ module _ (functions : List FunctionTree) (entry : def.Entry) (f : ObjectId) (m :
 pub call_runs : (entry : def.Entry) (f global : ObjectId) (arguments : List Value) (m : Machine) (before : Seen) (r : Result (Result Value Stop) Cut) (m' : Machine) (after : Seen)
     → m.frames ≡ [] → global.0 ≡ built_in_number built_in.Global → arguments ≡ value.Text entry.url ∷ value.Text entry.host ∷ []
     → Closes m (now.Begin (part.Call f (value.Object global) arguments outside)) before r m' after
-    → RunsBy (evaluation (functions_of m) MOST_OPEN (call_part f global_object (value.Text entry.url ∷ value.Text entry.host ∷ []) outside)) m before r m' after
+    → RunsBy (evaluation by_slots (functions_of m) MOST_OPEN (call_part f global_object (value.Text entry.url ∷ value.Text entry.host ∷ []) outside)) m before r m' after
 call_runs entry f global arguments m before r m' after empty is handed k =
     let same : global ≡ built_in_object built_in.Global = ap (λ (n : ℕ). record { 0 = n }) is in
-    subst (λ (vs : List Value). RunsBy (evaluation (functions_of m) MOST_OPEN (call_part f global_object vs outside)) m before r m' after) handed
-    (subst (λ (id : ObjectId). RunsBy (evaluation (functions_of m) MOST_OPEN (call_part f (value.Object id) arguments outside)) m before r m' after) same
+    subst (λ (vs : List Value). RunsBy (evaluation by_slots (functions_of m) MOST_OPEN (call_part f global_object vs outside)) m before r m' after) handed
+    (subst (λ (id : ObjectId). RunsBy (evaluation by_slots (functions_of m) MOST_OPEN (call_part f (value.Object id) arguments outside)) m before r m' after) same
     (loop_runs m (part.Call f (value.Object global) arguments outside) before r m' after empty k))

@@ -11,10 +11,10 @@ use Rattle.run_trees.specs.declared.abrupt.Abrupt.TheVariants as ending
 use Rattle.js_host.specs.Answers.{Name}
 use Rattle.js_host.specs.Seen.{Seen}
 use Rattle.run_trees.specs.RunTree.{RunTree, Done, Walked, Ended, Stopped, walk}
-use Rattle.js_evaluation.specs.State.{RunEnd, RunState, Comes, Faults, Stop}
+use Rattle.js_evaluation.specs.Scoping.{by_slots}
+use Rattle.js_evaluation.specs.State.{RunEnd, RunState, Comes, Faults, Stop, AfterValue, nameless}
 use Rattle.js_evaluation.specs.Evaluation as def
 use Rattle.js_evaluation.specs.Evaluation.{ending_of, first_state, run_tree, script_run}
-use Rattle.js_frames.specs.Rules.{AfterValue}
 use Rattle.heap_steps.specs.declared.halt.Halt.{Halt}
 use Rattle.heap_steps.specs.declared.halt.Halt.TheVariants as halt
 use Rattle.heap_steps.specs.Works.{Beside, state_with, plain_fault, left_out}
@@ -29,7 +29,7 @@ use Rattle.js_interp.specs.Runs.{EndsAs, Reaches, RunsBy}
 
 -- what comes after the whole run
 abbrev final : AfterValue
-final = λ result state. Done (Comes result state)
+final = λ result state. Done (Comes result (nameless state))
 
 some_same : (a b : def.Ending) → Some a ≡ Some b → a ≡ b
 some_same a b e = ap (λ (o : Option def.Ending). unwrap_or o b) e
@@ -64,20 +64,20 @@ keeps_ending h r beside e alerts kept ends k = kept_ending r (state_with h 0 bes
 
 module _ (body body' : List Statement) (functions : List Function) (entry : def.Entry) (m : Machine) where
   -- the run of this script is what the machine does from its beginning
-  begins : body' ≡ body → m.functions.now ≡ functions → run_state m.state ≡ first_state entry
-      → run_tree (statements_of body) (map function_of functions) entry ≡ script_run (statements_of body') (functions_of m) entry final (run_state m.state)
+  begins : body' ≡ body → m.functions.now ≡ functions → run_state m.state ≡ first_state by_slots entry
+      → run_tree (statements_of body) (map function_of functions) entry ≡ script_run by_slots (functions_of m) entry (statements_of body') final (run_state m.state)
   begins same_body same_functions state =
-      ap (λ (ss : List Statement). script_run (statements_of ss) (map function_of functions) entry final (first_state entry)) (sym same_body)
-      ∙ ap (λ (fs : List Function). script_run (statements_of body') (map function_of fs) entry final (first_state entry)) (sym same_functions)
-      ∙ ap (λ (s : RunState). script_run (statements_of body') (functions_of m) entry final s) (sym state)
+      ap (λ (ss : List Statement). script_run by_slots (map function_of functions) entry (statements_of ss) final (first_state by_slots entry)) (sym same_body)
+      ∙ ap (λ (fs : List Function). script_run by_slots (map function_of fs) entry (statements_of body') final (first_state by_slots entry)) (sym same_functions)
+      ∙ ap (λ (s : RunState). script_run by_slots (functions_of m) entry (statements_of body') final s) (sym state)
 
-  module _ (same_body : body' ≡ body) (same_functions : m.functions.now ≡ functions) (state : run_state m.state ≡ first_state entry) (before : Seen) (m' : Machine) (after : Seen) where
-    pub ends_over : (r : Result (Result Value Stop) Halt) (e : Ending) → RunsBy (script_run (statements_of body') (functions_of m) entry) m before (cut_of r) m' after
+  module _ (same_body : body' ≡ body) (same_functions : m.functions.now ≡ functions) (state : run_state m.state ≡ first_state by_slots entry) (before : Seen) (m' : Machine) (after : Seen) where
+    pub ends_over : (r : Result (Result Value Stop) Halt) (e : Ending) → RunsBy (script_run by_slots (functions_of m) entry (statements_of body')) m before (cut_of r) m' after
         → EndsBy m'.state.heap r (Ok e) → EndsAs (run_tree (statements_of body) (map function_of functions) entry) before e after
     ends_over r e k ends =
         let reached = reaches_end _ m' after (seen_ending e) r (k final) (ends m'.state.fuel (beside_of m'.state)) in
         record { end = reached.0; is = ap (λ (tree : RunTree RunEnd). walk tree before) (begins same_body same_functions state) ∙ reached.1; ends = reached.2 }
 
-    pub stops_over : (name : Name) → RunsBy (script_run (statements_of body') (functions_of m) entry) m before (Err (cut.Missing name)) m' after
+    pub stops_over : (name : Name) → RunsBy (script_run by_slots (functions_of m) entry (statements_of body')) m before (Err (cut.Missing name)) m' after
         → walk (run_tree (statements_of body) (map function_of functions) entry) before ≡ Stopped name after
     stops_over name k = ap (λ (tree : RunTree RunEnd). walk tree before) (begins same_body same_functions state) ∙ k final

@@ -9,9 +9,9 @@ use Rattle.run_trees.specs.Laws.{Restarts}
 use Rattle.run_trees.proofs.Restarting.{restarts}
 use Rattle.run_trees.specs.RunTree.{RunTree, Walked, Ended, Stopped, walk}
 use Rattle.run_trees.specs.Runs.{◌>>=◌, onward}
-use Rattle.js_evaluation.specs.State.{RunEnd, Stop, Does}
+use Rattle.js_evaluation.specs.Scoping.{by_slots}
+use Rattle.js_evaluation.specs.State.{RunEnd, Stop, Does, AfterValue}
 use Rattle.js_evaluation.specs.Evaluation.{evaluation}
-use Rattle.js_frames.specs.Rules.{AfterValue}
 use Rattle.js_frames.specs.RestOf.{room, rest_of}
 use Rattle.js_frames.specs.Parts.{context_of}
 use Rattle.js_frames.specs.declared.frame.Open.{Open}
@@ -42,9 +42,9 @@ closed_reaches last walked (Err (cut.Missing name)) m seen k = k
 
 -- the loop does a part to its end
 pub loop_runs : (m : Machine) (first : Part) (before : Seen) (r : Result (Result Value Stop) Cut) (m' : Machine) (after : Seen) → m.frames ≡ [] → Closes m (now.Begin first) before r m' after
-    → RunsBy (evaluation (functions_of m) MOST_OPEN (part_of (context_of m.context) first)) m before r m' after
+    → RunsBy (evaluation by_slots (functions_of m) MOST_OPEN (part_of (context_of m.context) first)) m before r m' after
 loop_runs m first before r m' after empty k last =
-    closed_reaches last _ r m' after (subst (λ (fs : List Open). Closed last (walk (evaluation (functions_of m) (room fs) (part_of (context_of m.context) first) (rest_of (functions_of m) last fs) (run_state m.state)) before) r m' after)
+    closed_reaches last _ r m' after (subst (λ (fs : List Open). Closed last (walk (evaluation by_slots (functions_of m) (room fs) (part_of (context_of m.context) first) (rest_of (functions_of m) last fs) (run_state m.state)) before) r m' after)
     empty (k.closes last))
 
 -- want of memory promises nothing

@@ -9,11 +9,11 @@ use Rattle.run_trees.specs.declared.abrupt.Abrupt.TheVariants as ending
 use Rattle.js_host.specs.Seen.{Seen}
 use Rattle.run_trees.specs.RunTree.{RunTree, Walked, Ended, Stopped, walk}
 use Rattle.run_trees.specs.Runs.{reading}
-use Rattle.js_evaluation.specs.State.{RunEnd, Faults, Stop, Does}
+use Rattle.js_evaluation.specs.State.{RunEnd, Faults, Stop, Does, AfterValue}
 use Rattle.js_evaluation.specs.Objects.{global_id}
+use Rattle.js_evaluation.specs.Scoping.{by_slots}
 use Rattle.js_evaluation.specs.Evaluation as def
 use Rattle.js_evaluation.specs.Evaluation.{called_for, entry_of, ending_of, first_state}
-use Rattle.js_frames.specs.Rules.{AfterValue}
 use Rattle.heap_steps.specs.declared.halt.Halt.{Halt}
 use Rattle.heap_steps.specs.declared.halt.Halt.TheVariants as halt
 use Rattle.heap_steps.specs.Works.{plain_fault, left_out}
@@ -32,7 +32,7 @@ use Rattle.js_interp.specs.Endings.{seen_ending}
 pub record Begun (functions : Bor (List Function)) (entry : Entry) (m : Machine) : Type 0 where
   pub functions_are : m.functions ≡ functions
   pub none_open : m.frames ≡ []
-  pub begins : run_state m.state ≡ first_state (of_entry entry)
+  pub begins : run_state m.state ≡ first_state by_slots (of_entry entry)
 
 -- The run over the host comes to this end and state, whatever comes after it, or is at its end by a fault, or stops at a
 -- name that the host lacks.
@@ -50,7 +50,7 @@ RunsBy part m before r m' after = (last : AfterValue) → Reaches last (walk (pa
 
 -- the call of the script's function, once the script is loaded
 abbrev pub called : List FunctionTree → def.Entry → Does Value
-called functions entry = reading (λ s. called_for functions entry (entry_of s.heap (found_of s.heap global_id (codes "FindProxyForURL"))))
+called functions entry = reading (λ s. called_for by_slots functions entry (entry_of s.heap (found_of s.heap global_id (codes "FindProxyForURL"))))
 
 -- the run ends so over the host
 pub record EndsAs (run : RunTree RunEnd) (before : Seen) (ending : Ending) (after : Seen) : Type 0 where

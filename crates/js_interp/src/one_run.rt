@@ -4,6 +4,7 @@ ghost use Rattle.heap_values.specs.declared.value.Value.TheVariants as value;
 ghost use Rattle.object_heap.specs.Heap.{found_of};
 ghost use Rattle.js_tree.specs.Tree.{statements_of};
 ghost use Rattle.js_scope.specs.Functions as scoped;
+ghost use Rattle.js_evaluation.specs.Scoping.{by_slots};
 ghost use Rattle.js_evaluation.specs.Evaluation as spec;
 ghost use Rattle.js_evaluation.specs.Objects.{global_id};
 ghost use Rattle.js_machine.specs.Moves.{functions_of};
@@ -135,7 +136,7 @@ fn run_whole<'p, H: Host>(
     alerts: &mut TextList,
 ) -> Result<End, Cut>
     requires { machine.old.frames ≡ [] }
-    ensures runs { RunsBy (spec.script_run (statements_of body.entry.now) (functions_of machine.old) (entry_of entry.entry.now)) machine.old (H.seen host.old) result machine.new (H.seen host.new) }
+    ensures runs { RunsBy (spec.script_run by_slots (functions_of machine.old) (entry_of entry.entry.now) (statements_of body.entry.now)) machine.old (H.seen host.old) result machine.new (H.seen host.new) }
     ensures keeps { alerts.old ≡ (H.seen host.old).alerts → KeptAtEnd result alerts.new (H.seen host.new).alerts }
 {
     let functions = machine.functions;

@@ -8,14 +8,15 @@ use Rattle.heap_values.specs.declared.value.Value.{Value}
 use Rattle.heap_values.specs.declared.value.Value.TheVariants as value
 use Rattle.heap_values.specs.Views.{HeapView}
 use Rattle.run_trees.specs.Runs.{pure, ◌>>=◌, ◌>>◌}
+use Rattle.js_evaluation.specs.Scoping.{by_slots}
+use Rattle.js_evaluation.specs.BySlots.{read_name}
 use Rattle.js_evaluation.specs.declared.fault.FaultCode.TheVariants as code
-use Rattle.js_evaluation.specs.State.{Does, fault, test_text}
-use Rattle.js_evaluation.specs.Objects.{Context, read_name}
+use Rattle.js_evaluation.specs.State.{Does, fault, test_text, AfterValue}
+use Rattle.js_evaluation.specs.Objects.{Context}
 use Rattle.js_evaluation.specs.Expressions.{expression_node}
-use Rattle.js_evaluation.specs.Evaluation.{Part, expression_part, target_part, part_place, node, evaluation}
+use Rattle.js_evaluation.specs.Evaluation.{node, evaluation}
 use Rattle.js_frames.specs.Parts.{context_of}
-use Rattle.js_frames.specs.Rules as rule
-use Rattle.js_frames.specs.Rules.{Within, AfterValue}
+use Rattle.js_evaluation.specs.Parts.{Within, visit, visit_target, Part, expression_part, target_part, part_place}
 use Rattle.js_frames.specs.RestOf.{room}
 use Rattle.heap_steps.specs.declared.halt.Halt.{Halt}
 use Rattle.heap_steps.specs.declared.halt.Halt.TheVariants as halt
@@ -89,13 +90,13 @@ module _ (functions : List FunctionTree) (n : ℕ) (part : Part) (s : State) whe
   -- no fuel is left, or no room
   pub enters_not : (e : Halt) (s' : State)
       → ((e ≡ halt.Fault code.FuelSpent (part_place part)) × (s.fuel ≡ 0)) ⊎ ((e ≡ halt.Fault code.TooDeep (part_place part)) × (0 < s.fuel) × (n ≡ 0))
-      → Acts (evaluation functions n part) s (Err e) s'
+      → Acts (evaluation by_slots functions n part) s (Err e) s'
   enters_not e s' why = ⊎_elim
-      (λ spent. subst (λ x. Acts (evaluation functions n part) s (Err x) s') (sym spent.0) (record {
-        is = λ after. ap (λ f. evaluation functions n part after (run_state (charged_state f))) spent.1 ∙ begun_spent functions n part after s.heap (beside_of s);
+      (λ spent. subst (λ x. Acts (evaluation by_slots functions n part) s (Err x) s') (sym spent.0) (record {
+        is = λ after. ap (λ f. evaluation by_slots functions n part after (run_state (charged_state f))) spent.1 ∙ begun_spent functions n part after s.heap (beside_of s);
         less = tt;
       }))
-      (λ deep. subst (λ x. Acts (evaluation functions n part) s (Err x) s') (sym deep.0) (record {
+      (λ deep. subst (λ x. Acts (evaluation by_slots functions n part) s (Err x) s') (sym deep.0) (record {
         is = λ after.
             ap (λ (p : Does Value). p after (run_state s)) (begun_none functions n part deep.2)
             ∙ charge_some (part_place part) (fault code.TooDeep (part_place part)) after s.heap s.fuel (s.fuel - 1) (beside_of s) (omega (arith, deep.1));
@@ -104,13 +105,13 @@ module _ (functions : List FunctionTree) (n : ℕ) (part : Part) (s : State) whe
       why
 
   module _ (less : ℕ) (taken : less + 1 ≡ s.fuel) (some : 0 < n) where
-    entered : (after : AfterValue) → evaluation functions n part after (run_state s) ≡ node functions (evaluation functions (n - 1)) part after (run_state (charged_state less))
+    entered : (after : AfterValue) → evaluation by_slots functions n part after (run_state s) ≡ node by_slots functions (evaluation by_slots functions (n - 1)) part after (run_state (charged_state less))
     entered after =
         ap (λ (p : Does Value). p after (run_state s)) (begun_some functions n part some)
-        ∙ charge_some (part_place part) (node functions (evaluation functions (n - 1)) part) after s.heap s.fuel less (beside_of s) taken
+        ∙ charge_some (part_place part) (node by_slots functions (evaluation by_slots functions (n - 1)) part) after s.heap s.fuel less (beside_of s) taken
 
-    enters_node : (r : Result Value Halt) (h : HeapView) → Works (node functions (evaluation functions (n - 1)) part) s.heap r h
-        → Acts (evaluation functions n part) s r (record s { fuel = less; heap = h })
+    enters_node : (r : Result Value Halt) (h : HeapView) → Works (node by_slots functions (evaluation by_slots functions (n - 1)) part) s.heap r h
+        → Acts (evaluation by_slots functions n part) s r (record s { fuel = less; heap = h })
     enters_node (Ok v) h w = record { is = λ after. entered after ∙ w.is after less (beside_of s); less = omega (arith, taken) }
     enters_node (Err (halt.Throw thrown)) h w = record { is = λ after. entered after ∙ w.is after less (beside_of s); less = omega (arith, taken) }
     enters_node (Err (halt.Fault c p)) h w = record { is = λ after. entered after ∙ w.is after less (beside_of s); less = tt }
@@ -118,26 +119,26 @@ module _ (functions : List FunctionTree) (n : ℕ) (part : Part) (s : State) whe
     enters_node (Err halt.Memory) h w = record { is = tt; less = tt }
 
     -- what the part does behind its charge to the heap
-    pub enters : (body : Does Value) → node functions (evaluation functions (n - 1)) part ≡ body → (r : Result Value Halt) (h : HeapView) → Works body s.heap r h
-        → Acts (evaluation functions n part) s r (record s { fuel = less; heap = h })
+    pub enters : (body : Does Value) → node by_slots functions (evaluation by_slots functions (n - 1)) part ≡ body → (r : Result Value Halt) (h : HeapView) → Works body s.heap r h
+        → Acts (evaluation by_slots functions n part) s r (record s { fuel = less; heap = h })
     enters body is r h w = enters_node r h (subst (λ (x : Does Value). Works x s.heap r h) (sym is) w)
 
 -- ---- the nodes that visit nothing
 
 module _ (functions : List FunctionTree) (go : Part → Does Value) (cx : Context) (p : Place) where
-  node_name : (x : BoundName) → node functions go (expression_part cx (Name p x)) ≡ read_name cx x p
+  node_name : (x : BoundName) → node by_slots functions go (expression_part cx (Name p x)) ≡ read_name cx x p
   unfolding expression_node
   node_name x = refl
 
-  node_number : (n : ℤ) → node functions go (expression_part cx (Number p n)) ≡ pure (value.Number n)
+  node_number : (n : ℤ) → node by_slots functions go (expression_part cx (Number p n)) ≡ pure (value.Number n)
   unfolding expression_node
   node_number n = refl
 
-  node_text : (t : List ℕ) → node functions go (expression_part cx (Characters p t)) ≡ (test_text t p >> pure (value.Text t))
+  node_text : (t : List ℕ) → node by_slots functions go (expression_part cx (Characters p t)) ≡ (test_text t p >> pure (value.Text t))
   unfolding expression_node
   node_text t = refl
 
-  node_target : (x : BoundName) → node functions go (target_part cx (Name p x)) ≡ pure value.Undefined
+  node_target : (x : BoundName) → node by_slots functions go (target_part cx (Name p x)) ≡ pure value.Undefined
   node_target x = refl
 
 -- a part that gives a value at once
@@ -156,7 +157,7 @@ module _ (m : Machine) (part : Part) where
   stays_outside s (Err x) e i why = subst (λ (y : Halt). Reaches (inner m part) m (Err y) (with_state m s)) (sym i)
       (record { state = s; same = refl; had = enters_not (functions_of m) (room m.frames - 1) part m.state e s why })
 
-  module _ (body : Does Value) (is : node (functions_of m) (evaluation (functions_of m) (room m.frames - 1 - 1)) part ≡ body) (less : ℕ) (taken : less + 1 ≡ m.state.fuel) (some : 0 < room m.frames - 1) (h : HeapView) where
+  module _ (body : Does Value) (is : node by_slots (functions_of m) (evaluation by_slots (functions_of m) (room m.frames - 1 - 1)) part ≡ body) (less : ℕ) (taken : less + 1 ≡ m.state.fuel) (some : 0 < room m.frames - 1) (h : HeapView) where
     abbrev after_it : State
     after_it = record m.state { fuel = less; heap = h }
 
@@ -172,44 +173,44 @@ module _ (m : Machine) (part : Part) where
 module _ (m : Machine) (p : Place) (less : ℕ) (taken : less + 1 ≡ m.state.fuel) (some : 0 < room m.frames - 1) where
   -- what is made of the parts within such a part, of which there are none
   abbrev below : Part → Does Value
-  below = evaluation (functions_of m) (room m.frames - 1 - 1)
+  below = evaluation by_slots (functions_of m) (room m.frames - 1 - 1)
 
   abbrev behind : HeapView → Machine
   behind h = with_state m (record m.state { fuel = less; heap = h })
 
   pub name_has : (x : BoundName) (h : HeapView) (v : Value) → Works (read_name (context_of m.context) x p) m.state.heap (Ok v) h
-      → Reaches (at m rule.visit (Name p x)) m (Ok (Some v)) (behind h)
+      → Reaches (visit (inner m) (context_of m.context) (Name p x)) m (Ok (Some v)) (behind h)
   name_has x h v w = has_value m (expression_part (context_of m.context) (Name p x)) (read_name (context_of m.context) x p)
       (node_name (functions_of m) below (context_of m.context) p x) less taken some h v w
 
   pub name_stops : (x : BoundName) (h : HeapView) (r : Result (Option Value) Halt) (e : Halt) → IsErrAnd r (λ x. x ≡ e)
-      → Works (read_name (context_of m.context) x p) m.state.heap (Err e) h → Reaches (at m rule.visit (Name p x)) m r (behind h)
+      → Works (read_name (context_of m.context) x p) m.state.heap (Err e) h → Reaches (visit (inner m) (context_of m.context) (Name p x)) m r (behind h)
   name_stops x h r e i w = has_none m (expression_part (context_of m.context) (Name p x)) (read_name (context_of m.context) x p)
       (node_name (functions_of m) below (context_of m.context) p x) less taken some h r e i w
 
-  pub number_has : (n : ℤ) → Reaches (at m rule.visit (Number p n)) m (Ok (Some (value.Number n))) (behind m.state.heap)
+  pub number_has : (n : ℤ) → Reaches (visit (inner m) (context_of m.context) (Number p n)) m (Ok (Some (value.Number n))) (behind m.state.heap)
   number_has n = has_value m (expression_part (context_of m.context) (Number p n)) (pure (value.Number n))
       (node_number (functions_of m) below (context_of m.context) p n) less taken some m.state.heap (value.Number n) (pure_works (value.Number n) m.state.heap)
 
   pub text_has : (t : List ℕ) → Works (test_text t p) m.state.heap (Ok tt) m.state.heap
-      → Reaches (at m rule.visit (Characters p t)) m (Ok (Some (value.Text t))) (behind m.state.heap)
+      → Reaches (visit (inner m) (context_of m.context) (Characters p t)) m (Ok (Some (value.Text t))) (behind m.state.heap)
   text_has t w = has_value m (expression_part (context_of m.context) (Characters p t)) (test_text t p >> pure (value.Text t))
       (node_text (functions_of m) below (context_of m.context) p t) less taken some m.state.heap (value.Text t)
       (chained _ _ _ _ tt _ _ w (pure_works (value.Text t) m.state.heap))
 
   pub text_stops : (t : List ℕ) (r : Result (Option Value) Halt) (e : Halt) → IsErrAnd r (λ x. x ≡ e) → Works (test_text t p) m.state.heap (Err e) m.state.heap
-      → Reaches (at m rule.visit (Characters p t)) m r (behind m.state.heap)
+      → Reaches (visit (inner m) (context_of m.context) (Characters p t)) m r (behind m.state.heap)
   text_stops t r e i w = has_none m (expression_part (context_of m.context) (Characters p t)) (test_text t p >> pure (value.Text t))
       (node_text (functions_of m) below (context_of m.context) p t) less taken some m.state.heap r e i (stops _ _ _ _ (Err e) e refl w)
 
-  pub target_has : (x : BoundName) → Reaches (at m rule.visit_target (Name p x)) m (Ok (Some value.Undefined)) (behind m.state.heap)
+  pub target_has : (x : BoundName) → Reaches (visit_target (inner m) (context_of m.context) (Name p x)) m (Ok (Some value.Undefined)) (behind m.state.heap)
   target_has x = has_value m (target_part (context_of m.context) (Name p x)) (pure value.Undefined)
       (node_target (functions_of m) below (context_of m.context) p x) less taken some m.state.heap value.Undefined (pure_works value.Undefined m.state.heap)
 
 -- what is said of a node is said of the expression that it is
 module _ (m : Machine) (r : Result (Option Value) Halt) (m' : Machine) (node e : ExpressionTree) (is : node ≡ e) where
-  pub value_of : Reaches (at m rule.visit node) m r m' → Reaches (at m rule.visit e) m r m'
-  value_of k = subst (λ (x : ExpressionTree). Reaches (at m rule.visit x) m r m') is k
+  pub value_of : Reaches (visit (inner m) (context_of m.context) node) m r m' → Reaches (visit (inner m) (context_of m.context) e) m r m'
+  value_of k = subst (λ (x : ExpressionTree). Reaches (visit (inner m) (context_of m.context) x) m r m') is k
 
-  pub target_of : Reaches (at m rule.visit_target node) m r m' → Reaches (at m rule.visit_target e) m r m'
-  target_of k = subst (λ (x : ExpressionTree). Reaches (at m rule.visit_target x) m r m') is k
+  pub target_of : Reaches (visit_target (inner m) (context_of m.context) node) m r m' → Reaches (visit_target (inner m) (context_of m.context) e) m r m'
+  target_of k = subst (λ (x : ExpressionTree). Reaches (visit_target (inner m) (context_of m.context) x) m r m') is k

@@ -9,10 +9,11 @@ use Rattle.heap_values.specs.declared.value.Value.{Value}
 use Rattle.heap_values.specs.Views.{HeapView}
 use Rattle.run_trees.specs.RunTree.{Done}
 use Rattle.run_trees.specs.Runs.{After, onward, ◌>>=◌, ◌>>◌}
+use Rattle.js_evaluation.specs.Scoping.{by_slots}
+use Rattle.js_evaluation.specs.Parts.{Part, part_place}
 use Rattle.js_evaluation.specs.declared.fault.FaultCode.TheVariants as code
-use Rattle.js_evaluation.specs.State.{RunState, RunEnd, Faults, Stop, Does, charge, fault}
-use Rattle.js_evaluation.specs.Evaluation.{Part, part_place, node, evaluation}
-use Rattle.js_frames.specs.Rules.{AfterValue}
+use Rattle.js_evaluation.specs.State.{RunState, RunEnd, Faults, Stop, Does, charge, fault, AfterValue}
+use Rattle.js_evaluation.specs.Evaluation.{node, evaluation}
 use Rattle.js_frames.specs.RestOf.{room, rest_of}
 use Rattle.heap_steps.specs.declared.halt.Halt.{Halt}
 use Rattle.heap_steps.specs.declared.halt.Halt.TheVariants as halt
@@ -79,15 +80,15 @@ pub positive : (n : ℕ) (b : Bool) → (n ≡ 0 → b ≡ true) → b ≡ false
 positive zero b h e = let t : b ≡ true = h refl in cc
 positive (suc n) b h e = omega arith
 
-pub begun_some : (functions : List FunctionTree) (n : ℕ) (part : Part) → 0 < n → evaluation functions n part ≡ (charge (part_place part) >> node functions (evaluation functions (n - 1)) part)
+pub begun_some : (functions : List FunctionTree) (n : ℕ) (part : Part) → 0 < n → evaluation by_slots functions n part ≡ (charge (part_place part) >> node by_slots functions (evaluation by_slots functions (n - 1)) part)
 unfolding evaluation
-begun_some functions n part some = let e : n ≡ suc (n - 1) = omega arith in ap (λ m. evaluation functions m part) e
+begun_some functions n part some = let e : n ≡ suc (n - 1) = omega arith in ap (λ m. evaluation by_slots functions m part) e
 
-pub begun_none : (functions : List FunctionTree) (n : ℕ) (part : Part) → n ≡ 0 → evaluation functions n part ≡ (charge (part_place part) >> fault code.TooDeep (part_place part))
+pub begun_none : (functions : List FunctionTree) (n : ℕ) (part : Part) → n ≡ 0 → evaluation by_slots functions n part ≡ (charge (part_place part) >> fault code.TooDeep (part_place part))
 unfolding evaluation
-begun_none functions n part none = ap (λ m. evaluation functions m part) none
+begun_none functions n part none = ap (λ m. evaluation by_slots functions m part) none
 
-pub begun_spent : (functions : List FunctionTree) (n : ℕ) (part : Part) (after : AfterValue) (h : HeapView) (beside : Beside) → evaluation functions n part after (state_with h 0 beside) ≡ Done (Faults (plain_fault code.FuelSpent (part_place part)))
+pub begun_spent : (functions : List FunctionTree) (n : ℕ) (part : Part) (after : AfterValue) (h : HeapView) (beside : Beside) → evaluation by_slots functions n part after (state_with h 0 beside) ≡ Done (Faults (plain_fault code.FuelSpent (part_place part)))
 unfolding evaluation
 begun_spent functions zero part after h beside = refl
 begun_spent functions (suc n) part after h beside = refl
@@ -98,22 +99,22 @@ module _ (place : Place) (m : Machine) where
       → (e ≡ halt.Fault code.FuelSpent place) × (m.state.fuel ≡ 0) → Descends place m r m'
   descends_spent m' (Ok u) e i h = absurd i
   descends_spent m' (Err x) e i h = subst (λ y. Descends place m (Err y) m') (sym (i ∙ h.0)) (λ last part here.
-      ap (λ n. evaluation (functions_of m) (room m.frames) part (rest_of (functions_of m) last m.frames) (state_with m.state.heap n (beside_of m.state))) h.1
+      ap (λ n. evaluation by_slots (functions_of m) (room m.frames) part (rest_of (functions_of m) last m.frames) (state_with m.state.heap n (beside_of m.state))) h.1
       ∙ begun_spent (functions_of m) (room m.frames) part (rest_of (functions_of m) last m.frames) m.state.heap (beside_of m.state)
       ∙ ap (λ p. Done (Faults (plain_fault code.FuelSpent p))) here)
 
   -- a unit is taken
   module _ (less : ℕ) (taken : less + 1 ≡ m.state.fuel) where
     pub descends_full : room m.frames ≡ 0 → (last : AfterValue) (part : Part) → part_place part ≡ place
-        → left last m (evaluation (functions_of m) (room m.frames) part) ≡ Done (Faults (plain_fault code.TooDeep place))
+        → left last m (evaluation by_slots (functions_of m) (room m.frames) part) ≡ Done (Faults (plain_fault code.TooDeep place))
     descends_full none last part here =
         ap (λ (p : Does Value). left last m p) (begun_none (functions_of m) (room m.frames) part none)
         ∙ charge_some (part_place part) (fault code.TooDeep (part_place part)) (rest_of (functions_of m) last m.frames) m.state.heap m.state.fuel less (beside_of m.state) taken
         ∙ ap (λ p. Done (Faults (plain_fault code.TooDeep p))) here
 
     pub descends_in : 0 < room m.frames → (last : AfterValue) (part : Part)
-        → left last m (evaluation (functions_of m) (room m.frames) part)
-        ≡ left last (record m { state = record m.state { fuel = less } }) (node (functions_of m) (inner m) part)
+        → left last m (evaluation by_slots (functions_of m) (room m.frames) part)
+        ≡ left last (record m { state = record m.state { fuel = less } }) (node by_slots (functions_of m) (inner m) part)
     descends_in some last part =
         ap (λ (p : Does Value). left last m p) (begun_some (functions_of m) (room m.frames) part some)
-        ∙ charge_some (part_place part) (node (functions_of m) (inner m) part) (rest_of (functions_of m) last m.frames) m.state.heap m.state.fuel less (beside_of m.state) taken
+        ∙ charge_some (part_place part) (node by_slots (functions_of m) (inner m) part) (rest_of (functions_of m) last m.frames) m.state.heap m.state.fuel less (beside_of m.state) taken

@@ -10,14 +10,15 @@ use Rattle.heap_values.specs.declared.value.Value.{Value}
 use Rattle.run_trees.specs.declared.abrupt.Abrupt.TheVariants as ending
 use Rattle.run_trees.specs.RunTree.{RunTree, Done}
 use Rattle.run_trees.specs.Runs.{ends}
-use Rattle.js_evaluation.specs.State.{RunState, RunEnd, Faults, Stop, Does}
+use Rattle.js_evaluation.specs.Scoping.{by_slots}
+use Rattle.js_evaluation.specs.State.{RunState, RunEnd, Faults, Stop, Does, AfterValue}
 use Rattle.js_evaluation.specs.Objects.{Context}
 use Rattle.js_evaluation.specs.PacNatives.{pac_work}
-use Rattle.js_evaluation.specs.Evaluation as def
-use Rattle.js_evaluation.specs.Evaluation.{part_place, node, evaluation}
+use Rattle.js_evaluation.specs.Parts as def
+use Rattle.js_evaluation.specs.Evaluation.{outer_scope, node, evaluation}
 use Rattle.js_frames.specs.declared.frame.Frame.{Frame}
 use Rattle.js_frames.specs.Parts.{context_of}
-use Rattle.js_frames.specs.Rules.{Within, AfterValue}
+use Rattle.js_evaluation.specs.Parts.{Within, part_place}
 use Rattle.js_frames.specs.RestOf.{rest_of_frame, room, within, rest_of}
 use Rattle.heap_steps.specs.declared.halt.Halt.{Halt}
 use Rattle.heap_steps.specs.declared.halt.Halt.TheVariants as halt
@@ -46,6 +47,10 @@ inner m = within (functions_of m) m.frames
 abbrev pub at : {A : Type 0} → Machine → (List FunctionTree → Within → Context → A) → A
 at m rule = rule (functions_of m) (inner m) (context_of m.context)
 
+-- a rule that is the same in each context
+abbrev pub anywhere : {A : Type 0} → Machine → (List FunctionTree → Within → A) → A
+anywhere m rule = rule (functions_of m) (inner m)
+
 -- A part, and then what the open parts make of its end; last: what comes after the outermost.
 abbrev pub left : AfterValue → Machine → Does Value → RunTree RunEnd
 left last m part = part (rest_of (functions_of m) last m.frames) (run_state m.state)
@@ -60,7 +65,7 @@ part_of cx (part.Statement s) = def.statement_part cx s.now
 part_of cx (part.Declare place all) = def.statement_part cx (Var place (declarations_of all.now))
 part_of cx (part.Call f this vs place) = def.call_part f this vs place
 part_of cx (part.Construct f vs place) = def.construct_part f vs place
-part_of cx (part.Load body) = def.load_part def.outer_scope (statements_of body.now)
+part_of cx (part.Load body) = def.load_part outer_scope (statements_of body.now)
 
 abbrev pub begun : Within → Context → Now → Does Value
 begun go cx (now.Begin p) = go (part_of cx p)
@@ -69,7 +74,7 @@ begun go cx (now.Host f vs place) = pac_work f vs place
 
 -- what is to be done, and then what the open parts make of it
 abbrev pub present : AfterValue → Machine → Now → RunTree RunEnd
-present last m what = left last m (begun (evaluation (functions_of m) (room m.frames)) (context_of m.context) what)
+present last m what = left last m (begun (evaluation by_slots (functions_of m) (room m.frames)) (context_of m.context) what)
 
 -- ---- steps
 
@@ -141,7 +146,7 @@ module _ (functions : List FunctionTree) (go : Within) (cx : Context) where
 -- the part is charged and begun
 pub record Descended (place : Place) (m m' : Machine) : Type 0 where
   pub goes_in : (last : AfterValue) (begins : def.Part) → part_place begins ≡ place
-      → left last m (evaluation (functions_of m) (room m.frames) begins) ≡ left last m' (node (functions_of m') (inner m') begins)
+      → left last m (evaluation by_slots (functions_of m) (room m.frames) begins) ≡ left last m' (node by_slots (functions_of m') (inner m') begins)
   pub around : m'.context ≡ m.context
   pub less : weight m' + 3 ≤ weight m
 
@@ -155,4 +160,4 @@ Stops tree halt.Memory = Unit {0}
 abbrev pub Descends : Place → Machine → Result (Unit {0}) Halt → Machine → Type 0
 Descends place m (Ok done) m' = Descended place m m'
 Descends place m (Err e) m' = (last : AfterValue) (begins : def.Part) → part_place begins ≡ place
-    → Stops (left last m (evaluation (functions_of m) (room m.frames) begins)) e
+    → Stops (left last m (evaluation by_slots (functions_of m) (room m.frames) begins)) e

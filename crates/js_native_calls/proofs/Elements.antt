@@ -22,14 +22,14 @@ use Rattle.js_evaluation.specs.Objects.{get}
 use Rattle.js_evaluation.specs.Conversions.{primitive_by, text_methods}
 use Rattle.js_evaluation.specs.Natives.{element_text}
 use Rattle.js_frames.specs.declared.wanted.Wanted.TheVariants as wanted
-use Rattle.js_frames.specs.Rules as rule
+use Rattle.js_evaluation.specs.Parts.{calls}
 use Rattle.js_frames.specs.RestOf.{rest_of}
 use Rattle.heap_steps.specs.declared.halt.Halt.{Halt}
 use Rattle.heap_steps.specs.declared.halt.Halt.TheVariants as halt
 use Rattle.heap_steps.specs.Works.{Works}
 use Rattle.js_machine.specs.declared.machine.Machine.{Machine}
 use Rattle.js_machine.specs.declared.now.Now.{Now}
-use Rattle.js_machine.specs.Moves.{Moves, at, functions_of, run_state}
+use Rattle.js_machine.specs.Moves.{Moves, at, functions_of, run_state, inner}
 use Rattle.js_machine.proofs.Steps.{with_heap, works_then, works_stops}
 use Rattle.js_native_calls.specs.Calls.{converted, join_refusal, joined_from, joined_value, plain_text}
 use Rattle.js_native_calls.proofs.Grouping.{grouped}
@@ -85,7 +85,7 @@ module _ (m : Machine) (count : ℕ) (array : ObjectId) (texts : List (List ℕ)
     behind t = at m joined_from less count array (texts ++ t ∷ []) separator place
 
     abbrev taken : Value → Does Value
-    taken v = element_text (at m rule.call) v place >>= behind
+    taken v = element_text (calls (inner m)) v place >>= behind
 
     one_left : (m' : Machine) → Moves (get (value.Object array) (decimal (count - left)) place >>= taken) m r m' → Moves (at m joined_from left count array texts separator place) m r m'
     one_left m' k =
@@ -105,7 +105,7 @@ module _ (m : Machine) (count : ℕ) (array : ObjectId) (texts : List (List ℕ)
       pub plain_element : (now_texts : List (List ℕ)) → ((id : ObjectId) → v ≡ value.Object id → ⊥) → now_texts ≡ texts ++ plain_text v ∷ []
           → Moves (at m joined_from less count array now_texts separator place) (with_heap m h) r m' → Moves (at m joined_from left count array texts separator place) m r m'
       plain_element now_texts n pushed k =
-          read (subst (λ (p : Does (List ℕ)). Moves (p >>= behind) (with_heap m h) r m') (sym (text_of_element (at m rule.call) v place n))
+          read (subst (λ (p : Does (List ℕ)). Moves (p >>= behind) (with_heap m h) r m') (sym (text_of_element (calls (inner m)) v place n))
           (subst (λ (ts : List (List ℕ)). Moves (at m joined_from less count array ts separator place) (with_heap m h) r m') pushed k))
 
       -- the next is an object that is asked
@@ -114,4 +114,4 @@ module _ (m : Machine) (count : ℕ) (array : ObjectId) (texts : List (List ℕ)
           → Moves (at m joined_from left count array texts separator place) m r m'
       asked_element id e k =
           read (subst (λ (w : Value). Moves (taken w) (with_heap m h) r m') (sym e)
-          (grouped (primitive_by (at m rule.call) text_methods id place) (λ p. pure (text_of p)) behind (with_heap m h) r m' k))
+          (grouped (primitive_by (calls (inner m)) text_methods id place) (λ p. pure (text_of p)) behind (with_heap m h) r m' k))

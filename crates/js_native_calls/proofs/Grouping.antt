@@ -4,8 +4,7 @@ use mathlib.Core.Path.{fun_ext}
 use Rattle.heap_values.specs.declared.value.Value.{Value}
 use Rattle.heap_values.specs.Views.{HeapView}
 use Rattle.run_trees.specs.Runs.{onward, ◌>>=◌}
-use Rattle.js_evaluation.specs.State.{RunState, Stop, Does}
-use Rattle.js_frames.specs.Rules.{AfterValue}
+use Rattle.js_evaluation.specs.State.{RunState, Stop, Does, AfterValue}
 use Rattle.heap_steps.specs.declared.halt.Halt.{Halt}
 use Rattle.heap_steps.specs.Works.{Works}
 use Rattle.js_machine.specs.declared.machine.Machine.{Machine}

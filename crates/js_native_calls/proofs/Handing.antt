@@ -16,11 +16,11 @@ use Rattle.js_evaluation.specs.Natives as natives
 use Rattle.js_evaluation.specs.Natives.{tested, is_kept, methods_for, settled, primitive_or_kept}
 use Rattle.js_evaluation.specs.NativeTable.{conversion_at}
 use Rattle.js_frames.specs.declared.wanted.Wanted.TheVariants as wanted
-use Rattle.js_frames.specs.Rules as rule
+use Rattle.js_evaluation.specs.Parts.{calls}
 use Rattle.heap_steps.specs.declared.halt.Halt.{Halt}
 use Rattle.js_machine.specs.declared.machine.Machine.{Machine}
 use Rattle.js_machine.specs.declared.now.Now.{Now}
-use Rattle.js_machine.specs.Moves.{Moves, at}
+use Rattle.js_machine.specs.Moves.{Moves, at, inner}
 use Rattle.js_machine.proofs.Steps.{with_heap, works_then, works_stops}
 use Rattle.js_native_calls.specs.declared.readying.Readied.TheVariants as readied
 use Rattle.js_native_calls.specs.Calls.{converted, converted_from, native_done}
@@ -49,26 +49,26 @@ module _ (m : Machine) (n : Native) (done handed : List Value) (place : Place) (
     abbrev behind : Value → Does Value
     behind w = at m converted_from n less (done ++ w ∷ []) handed place
 
-    next_of : (m' : Machine) → Moves (natives.converted (at m rule.call) n c v place >>= behind) m r m' → Moves (at m converted_from n left done handed place) m r m'
+    next_of : (m' : Machine) → Moves (natives.converted (calls (inner m)) n c v place >>= behind) m r m' → Moves (at m converted_from n left done handed place) m r m'
     next_of m' k = subst (λ (l : ℕ). Moves (at m converted_from n l done handed place) m r m') (sym some) k
 
     -- the next stops
-    pub next_stops : (e : Halt) → IsErrAnd r (λ x. x ≡ e) → Readies (at m rule.call) n (conversion_at n (length done)) (argument (length done) handed) place m.state.heap (Err e) h
+    pub next_stops : (e : Halt) → IsErrAnd r (λ x. x ≡ e) → Readies (calls (inner m)) n (conversion_at n (length done)) (argument (length done) handed) place m.state.heap (Err e) h
         → Moves (at m converted_from n left done handed place) m r (with_heap m h)
-    next_stops e i w = next_of (with_heap m h) (works_stops (natives.converted (at m rule.call) n c v place) behind m h r e i w)
+    next_stops e i w = next_of (with_heap m h) (works_stops (natives.converted (calls (inner m)) n c v place) behind m h r e i w)
 
     -- the next has a value
-    pub next_value : (m' : Machine) (w : Value) (now_done : List Value) → Readies (at m rule.call) n (conversion_at n (length done)) (argument (length done) handed) place m.state.heap (Ok (readied.Value w)) h
+    pub next_value : (m' : Machine) (w : Value) (now_done : List Value) → Readies (calls (inner m)) n (conversion_at n (length done)) (argument (length done) handed) place m.state.heap (Ok (readied.Value w)) h
         → now_done ≡ done ++ w ∷ [] → Moves (at m converted_from n less now_done handed place) (with_heap m h) r m' → Moves (at m converted_from n left done handed place) m r m'
     next_value m' w now_done t pushed k =
-        next_of m' (works_then (natives.converted (at m rule.call) n c v place) behind m h w t
+        next_of m' (works_then (natives.converted (calls (inner m)) n c v place) behind m h w t
         (subst (λ (d : List Value). Moves (at m converted_from n less d handed place) (with_heap m h) r m') pushed k))
 
     -- the next is an object that is asked
-    pub next_asked : (m' : Machine) (id : ObjectId) → Readies (at m rule.call) n (conversion_at n (length done)) (argument (length done) handed) place m.state.heap (Ok (readied.Asked id)) h
+    pub next_asked : (m' : Machine) (id : ObjectId) → Readies (calls (inner m)) n (conversion_at n (length done)) (argument (length done) handed) place m.state.heap (Ok (readied.Asked id)) h
         → Moves (at m converted (methods_for (conversion_at n (length done))) id place (wanted.Handed n less done handed place)) (with_heap m h) r m'
         → Moves (at m converted_from n left done handed place) m r m'
     next_asked m' id t k =
-        let by_methods = grouped (primitive_by (at m rule.call) (methods_for c) id place) (λ p. settled c p place) behind (with_heap m h) r m' k in
-        next_of m' (first_then (tested n c v place) (λ _. primitive_or_kept (at m rule.call) c v place) behind m r m' h tt t.2
-        (subst (λ (p : Does Value). Moves (p >>= behind) (with_heap m h) r m') (sym (asked (at m rule.call) c v place id t.0 t.1)) by_methods))
+        let by_methods = grouped (primitive_by (calls (inner m)) (methods_for c) id place) (λ p. settled c p place) behind (with_heap m h) r m' k in
+        next_of m' (first_then (tested n c v place) (λ _. primitive_or_kept (calls (inner m)) c v place) behind m r m' h tt t.2
+        (subst (λ (p : Does Value). Moves (p >>= behind) (with_heap m h) r m') (sym (asked (calls (inner m)) c v place id t.0 t.1)) by_methods))

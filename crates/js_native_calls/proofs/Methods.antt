@@ -8,21 +8,20 @@ use Rattle.heap_values.specs.declared.value.Value.TheVariants as value
 use Rattle.heap_values.specs.Views.{HeapView}
 use Rattle.js_convert.specs.Operators.{is_object}
 use Rattle.run_trees.specs.Runs.{pure, reading, onward, ◌>>=◌}
-use Rattle.js_evaluation.specs.State.{Does}
+use Rattle.js_evaluation.specs.State.{Does, AfterValue}
 use Rattle.js_evaluation.specs.Objects.{get, is_callable}
 use Rattle.js_evaluation.specs.Conversions as convert
 use Rattle.js_frames.specs.declared.frame.Frame.TheVariants as frame
 use Rattle.js_frames.specs.declared.wanted.Methods.{Methods}
 use Rattle.js_frames.specs.declared.wanted.Wanted.{Wanted}
 use Rattle.js_frames.specs.Parts.{names_of}
-use Rattle.js_frames.specs.Rules as rule
-use Rattle.js_frames.specs.Rules.{AfterValue}
+use Rattle.js_evaluation.specs.Parts.{calls}
 use Rattle.js_frames.specs.RestOf.{with_primitive}
 use Rattle.heap_steps.specs.declared.halt.Halt.{Halt}
 use Rattle.heap_steps.specs.Works.{Works, called_object}
 use Rattle.js_machine.specs.declared.machine.Machine.{Machine}
 use Rattle.js_machine.specs.declared.now.Now.{Now}
-use Rattle.js_machine.specs.Moves.{Moves, at, called, run_state}
+use Rattle.js_machine.specs.Moves.{Moves, at, called, run_state, inner}
 use Rattle.js_machine.proofs.Steps.{with_heap, works_then, works_stops}
 use Rattle.js_native_calls.specs.Calls.{converted}
 use Rattle.js_native_calls.proofs.Steps.{moves_as}
@@ -31,12 +30,12 @@ use Rattle.js_native_calls.proofs.Objects.{called_true, called_none, called_valu
 module _ (m : Machine) (methods : Methods) (object : ObjectId) (place : Place) (wanted : Wanted) where
   -- what is taken of what a method gives
   abbrev taken : Value → Does Value
-  taken v = if is_object v then convert.primitive_by (at m rule.call) (names_of methods) object place else pure v
+  taken v = if is_object v then convert.primitive_by (calls (inner m)) (names_of methods) object place else pure v
 
   -- a method is called where it can be, and else the next is asked
   abbrev tried : Value → Does Value
-  tried f = reading (λ s. if is_callable s.heap f then convert.call_value (at m rule.call) f (value.Object object) [] place >>= taken
-      else convert.primitive_by (at m rule.call) (names_of methods) object place) >>= at m with_primitive wanted
+  tried f = reading (λ s. if is_callable s.heap f then convert.call_value (calls (inner m)) f (value.Object object) [] place >>= taken
+      else convert.primitive_by (calls (inner m)) (names_of methods) object place) >>= at m with_primitive wanted
 
   module _ (name : List ℕ) (h : HeapView) where
     pub get_stops : (r : Result Now Halt) (e : Halt) → IsErrAnd r (λ x. x ≡ e) → Works (get (value.Object object) name place) m.state.heap (Err e) h
@@ -47,10 +46,10 @@ module _ (m : Machine) (methods : Methods) (object : ObjectId) (place : Place) (
       is_called : (g : ObjectId) → called_object h f ≡ Some g → (after : AfterValue)
           → tried f after (run_state (with_heap m h).state) ≡ at m called g (value.Object object) [] place (frame.Primitive object methods place wanted) after (run_state (with_heap m h).state)
       is_called g e after =
-          ap (λ b. (if b then convert.call_value (at m rule.call) f (value.Object object) [] place >>= taken else convert.primitive_by (at m rule.call) (names_of methods) object place)
+          ap (λ b. (if b then convert.call_value (calls (inner m)) f (value.Object object) [] place >>= taken else convert.primitive_by (calls (inner m)) (names_of methods) object place)
           (onward (at m with_primitive wanted) after) (run_state (with_heap m h).state)) (called_true h f g e)
           ∙ ap (λ (p : Does Value). p (onward taken (onward (at m with_primitive wanted) after)) (run_state (with_heap m h).state))
-          (called_value (at m rule.call) (value.Object object) [] place h f g e)
+          (called_value (calls (inner m)) (value.Object object) [] place h f g e)
 
       pub called_method : (g : ObjectId) → called_object h f ≡ Some g
           → Moves (at m called g (value.Object object) [] place (frame.Primitive object methods place wanted)) (with_heap m h) r m'
@@ -60,7 +59,7 @@ module _ (m : Machine) (methods : Methods) (object : ObjectId) (place : Place) (
       isnt_called : called_object h f ≡ None → (after : AfterValue)
           → tried f after (run_state (with_heap m h).state) ≡ at m converted (names_of methods) object place wanted after (run_state (with_heap m h).state)
       isnt_called e after =
-          ap (λ b. (if b then convert.call_value (at m rule.call) f (value.Object object) [] place >>= taken else convert.primitive_by (at m rule.call) (names_of methods) object place)
+          ap (λ b. (if b then convert.call_value (calls (inner m)) f (value.Object object) [] place >>= taken else convert.primitive_by (calls (inner m)) (names_of methods) object place)
           (onward (at m with_primitive wanted) after) (run_state (with_heap m h).state)) (called_none h f e)
 
       pub next_method : called_object h f ≡ None → Moves (at m converted (names_of methods) object place wanted) (with_heap m h) r m'

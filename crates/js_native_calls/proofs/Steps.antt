@@ -6,8 +6,7 @@ use Rattle.heap_values.specs.declared.value.Value.{Value}
 use Rattle.heap_values.specs.Views.{HeapView}
 use Rattle.run_trees.specs.Runs.{pure, ◌>>◌}
 use Rattle.js_evaluation.specs.declared.fault.FaultCode.TheVariants as code
-use Rattle.js_evaluation.specs.State.{Does, charge}
-use Rattle.js_frames.specs.Rules.{AfterValue}
+use Rattle.js_evaluation.specs.State.{Does, charge, AfterValue}
 use Rattle.js_frames.specs.RestOf.{rest_of}
 use Rattle.heap_steps.specs.declared.halt.Halt.{Halt}
 use Rattle.heap_steps.specs.declared.halt.Halt.TheVariants as halt

@@ -10,11 +10,10 @@ use Rattle.run_trees.specs.RunTree.{Done}
 use Rattle.run_trees.specs.Runs.{onward, reading, ◌>>◌}
 use Rattle.js_evaluation.specs.declared.fault.FaultCode.{FaultCode}
 use Rattle.js_evaluation.specs.declared.fault.FaultCode.TheVariants as code
-use Rattle.js_evaluation.specs.State.{Faults, Does, charges, fault}
+use Rattle.js_evaluation.specs.State.{Faults, Does, charges, fault, AfterValue}
 use Rattle.heap_steps.specs.declared.halt.Halt.{Halt}
 use Rattle.heap_steps.specs.declared.halt.Halt.TheVariants as halt
 use Rattle.heap_steps.specs.Works.{Beside, state_with, plain_fault}
-use Rattle.js_frames.specs.Rules.{AfterValue}
 use Rattle.js_frames.specs.RestOf.{rest_of}
 use Rattle.js_machine.specs.declared.machine.Machine.{Machine}
 use Rattle.js_machine.specs.declared.now.Now.{Now}

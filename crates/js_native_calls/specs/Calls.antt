@@ -20,8 +20,7 @@ use Rattle.js_frames.specs.declared.wanted.Wanted.{Wanted}
 use Rattle.js_frames.specs.RestOf.{with_primitive}
 use Rattle.heap_steps.specs.declared.halt.Halt.{Halt}
 use Rattle.heap_steps.specs.declared.halt.Halt.TheVariants as halt
-use Rattle.js_frames.specs.Rules as rule
-use Rattle.js_frames.specs.Rules.{Within}
+use Rattle.js_evaluation.specs.Parts.{Within, calls}
 
 -- the name of an error that has none
 abbrev pub name_or_error : Value → Value
@@ -42,31 +41,31 @@ join_refusal answer.Memory place = halt.Memory
 module _ (functions : List FunctionTree) (go : Within) (cx : Context) where
   -- an object becomes a primitive value, with what that is wanted for
   abbrev pub converted : List (List ℕ) → ObjectId → Place → Wanted → Does Value
-  converted methods object place wanted = convert.primitive_by (rule.call functions go cx) methods object place >>= with_primitive functions go cx wanted
+  converted methods object place wanted = convert.primitive_by (calls go) methods object place >>= with_primitive functions go cx wanted
 
   abbrev pub native_call : ℕ → Value → List Value → Place → Does Value
-  native_call n = natives.native_outcome (rule.call functions go cx) (table.native_of n)
+  native_call n = natives.native_outcome (calls go) (table.native_of n)
 
   abbrev pub native_value : Native → Value → List Value → Place → Does Value
-  native_value = natives.native_value (rule.call functions go cx)
+  native_value = natives.native_value (calls go)
 
   abbrev pub converted_from : Native → ℕ → List Value → List Value → Place → Does Value
-  converted_from = natives.converted_from (rule.call functions go cx)
+  converted_from = natives.converted_from (calls go)
 
   abbrev pub native_done : Native → List Value → List Value → Place → Does Value
-  native_done = natives.native_done (rule.call functions go cx)
+  native_done = natives.native_done (calls go)
 
   abbrev pub error_text : Value → Place → Does Value
-  error_text = natives.error_text (rule.call functions go cx)
+  error_text = natives.error_text (calls go)
 
   abbrev pub text_of_error : ObjectId → Place → Does Value
   text_of_error error place = error_text (value.Object error) place
 
   abbrev pub array_text : Value → List ℕ → List Value → Place → Does Value
-  array_text = natives.array_text (rule.call functions go cx)
+  array_text = natives.array_text (calls go)
 
   abbrev pub joined_value : Value → List ℕ → Place → Does Value
-  joined_value = natives.joined_value (rule.call functions go cx)
+  joined_value = natives.joined_value (calls go)
 
   abbrev pub joined_from : ℕ → ℕ → ObjectId → List (List ℕ) → List ℕ → Place → Does Value
-  joined_from = natives.joined_from (rule.call functions go cx)
+  joined_from = natives.joined_from (calls go)

@@ -6,19 +6,19 @@ use Rattle.js_tree.specs.View.{suffixes_of}
 use Rattle.heap_values.specs.declared.ids.ObjectId.{ObjectId}
 use Rattle.heap_values.specs.declared.value.Value.{Value}
 use Rattle.run_trees.specs.Runs.{onward}
-use Rattle.js_evaluation.specs.State.{Does, global_object, throw_type_error}
+use Rattle.js_evaluation.specs.State.{Does, global_object, throw_type_error, AfterValue}
 use Rattle.js_evaluation.specs.Objects.{Context}
 use Rattle.js_frames.specs.declared.expression_frame.OpenCall.{OpenCall}
 use Rattle.js_frames.specs.declared.expression_frame.SuffixFrame.TheVariants as of_suffix
 use Rattle.js_frames.specs.declared.frame.Frame.TheVariants as frame
-use Rattle.js_frames.specs.Rules as rule
-use Rattle.js_frames.specs.Rules.{Within, AfterValue}
+use Rattle.js_evaluation.specs.Parts.{Within, calls, visit}
+use Rattle.js_frames.specs.Parts.{context_of}
 use Rattle.js_frames.specs.RestOf.{suffixes_by}
 use Rattle.heap_steps.specs.declared.halt.Halt.{Halt}
 use Rattle.heap_steps.specs.Works.{called_object}
 use Rattle.js_machine.specs.declared.machine.Machine.{Machine}
 use Rattle.js_machine.specs.declared.now.Now.{Now}
-use Rattle.js_machine.specs.Moves.{Moves, at, called, run_state}
+use Rattle.js_machine.specs.Moves.{Moves, at, called, run_state, inner}
 use Rattle.js_machine.specs.Leaves.{Reaches}
 use Rattle.js_machine.proofs.Acting.{reached_then, reached_stops, not_reached}
 use Rattle.js_primary.specs.Calls.{call_value, arguments_from}
@@ -32,7 +32,7 @@ module _ (m : Machine) (call : OpenCall) (vs : List Value) (r : Result Now Halt)
   there : (f : ObjectId) → called_object m.state.heap call.callee ≡ Some f → (after : AfterValue)
       → at m call_value call vs after (run_state m.state)
       ≡ at m called f call.this vs call.place (frame.Suffix (of_suffix.Called call.aim call.rest)) after (run_state m.state)
-  there f e after = ap (λ (p : Does Value). p (behind after) (run_state m.state)) (called_value (at m rule.call) call.this vs call.place m.state.heap call.callee f e)
+  there f e after = ap (λ (p : Does Value). p (behind after) (run_state m.state)) (called_value (calls (inner m)) call.this vs call.place m.state.heap call.callee f e)
 
   pub called_there : (f : ObjectId) → called_object m.state.heap call.callee ≡ Some f
       → Moves (at m called f call.this vs call.place (frame.Suffix (of_suffix.Called call.aim call.rest))) m r m' → Moves (at m call_value call vs) m r m'
@@ -40,7 +40,7 @@ module _ (m : Machine) (call : OpenCall) (vs : List Value) (r : Result Now Halt)
 
   nowhere : called_object m.state.heap call.callee ≡ None → (after : AfterValue)
       → at m call_value call vs after (run_state m.state) ≡ throw_type_error (codes "not a function") call.place after (run_state m.state)
-  nowhere e after = ap (λ (p : Does Value). p (behind after) (run_state m.state)) (uncalled_value (at m rule.call) call.this vs call.place m.state.heap call.callee e)
+  nowhere e after = ap (λ (p : Does Value). p (behind after) (run_state m.state)) (uncalled_value (calls (inner m)) call.this vs call.place m.state.heap call.callee e)
 
   pub not_called : called_object m.state.heap call.callee ≡ None → Moves (throw_type_error (codes "not a function") call.place) m r m'
       → Moves (at m call_value call vs) m r m'
@@ -53,16 +53,16 @@ module _ (m m₁ : Machine) (call : OpenCall) (done : List Value) (e : Expressio
   abbrev with_argument : List FunctionTree → Within → Context → Value → Does Value
   with_argument functions go cx v = arguments_from functions go cx call (done ++ v ∷ []) left
 
-  pub argument_then : (v : Value) (m' : Machine) → Reaches (at m rule.visit e) m (Ok (Some v)) m₁ → Moves (at m₁ arguments_from call (done ++ v ∷ []) left) m₁ r m'
+  pub argument_then : (v : Value) (m' : Machine) → Reaches (visit (inner m) (context_of m.context) e) m (Ok (Some v)) m₁ → Moves (at m₁ arguments_from call (done ++ v ∷ []) left) m₁ r m'
       → Moves (at m arguments_from call done (an_expression e left)) m r m'
-  argument_then v m' k goes = reached_then (at m rule.visit e) with_argument m m₁ v r m' k goes
+  argument_then v m' k goes = reached_then (visit (inner m) (context_of m.context) e) with_argument m m₁ v r m' k goes
 
-  pub argument_stops : (h : Halt) → IsErrAnd r (λ x. x ≡ h) → Reaches (at m rule.visit e) m (Err h) m₁
+  pub argument_stops : (h : Halt) → IsErrAnd r (λ x. x ≡ h) → Reaches (visit (inner m) (context_of m.context) e) m (Err h) m₁
       → Moves (at m arguments_from call done (an_expression e left)) m r m₁
-  argument_stops h i k = reached_stops (at m rule.visit e) with_argument m m₁ r h i k
+  argument_stops h i k = reached_stops (visit (inner m) (context_of m.context) e) with_argument m m₁ r h i k
 
   -- where it is not, it is visited
-  pub argument_visited : (m' : Machine) → Reaches (at m rule.visit e) m (Ok None) m₁ → Moves (at m₁ arguments_from call done (an_expression e left)) m₁ r m'
+  pub argument_visited : (m' : Machine) → Reaches (visit (inner m) (context_of m.context) e) m (Ok None) m₁ → Moves (at m₁ arguments_from call done (an_expression e left)) m₁ r m'
       → Moves (at m arguments_from call done (an_expression e left)) m r m'
   argument_visited m' k goes =
-      not_reached (at m rule.visit e) (λ functions go cx. arguments_from functions go cx call done (an_expression e left)) m m₁ r m' k goes
+      not_reached (visit (inner m) (context_of m.context) e) (λ functions go cx. arguments_from functions go cx call done (an_expression e left)) m m₁ r m' k goes

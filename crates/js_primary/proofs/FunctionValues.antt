@@ -14,9 +14,8 @@ use Rattle.heap_values.specs.declared.value.Value.{Value}
 use Rattle.js_evaluation.specs.State.{Does}
 use Rattle.js_evaluation.specs.Objects.{Context, closure, arity_of}
 use Rattle.js_evaluation.specs.Expressions as expression
-use Rattle.js_evaluation.specs.Evaluation as evaluation
-use Rattle.js_frames.specs.Rules as rule
-use Rattle.js_frames.specs.Rules.{Within}
+use Rattle.js_evaluation.specs.Parts.{Within}
+use Rattle.js_evaluation.specs.Scoping.{by_slots}
 use Rattle.js_primary.specs.Functions.{arity_in, has_name, tree_in, named_function}
 
 -- the function of a number, as the code finds it
@@ -30,7 +29,7 @@ arity_is (Some f) = refl
 
 module _ (functions : List FunctionTree) (go : Within) (cx : Context) where
   abbrev value_of : Place → ℕ → Option FunctionTree → Does Value
-  value_of = expression.function_value_of functions (evaluation.visit functions go) (evaluation.visit_target functions go) (evaluation.call functions go) (evaluation.construct functions go) cx
+  value_of = expression.function_value_of by_slots functions go cx
 
   plain_if : (place : Place) (number : ℕ) (own : Option BoundName) (ps : List BoundName) (names : List (List ℕ)) (body : Statements)
       → is_some own ≡ false → value_of place number (Some (a_function own ps names body)) ≡ closure number (length ps) cx.scope place
@@ -53,10 +52,10 @@ module _ (functions : List FunctionTree) (go : Within) (cx : Context) where
 
   -- a function without a name of its own
   pub plain_function : (place : Place) (number : ℕ) (f : Option (Bor Function)) → slice_get functions number ≡ tree_in f → has_name f ≡ false
-      → rule.function_value functions go cx place number ≡ closure number (arity_in f) cx.scope place
+      → expression.function_value by_slots functions go cx place number ≡ closure number (arity_in f) cx.scope place
   plain_function place number f e h = ap (value_of place number) e ∙ plain_of place number f h
 
   -- one with such a name
   pub own_function : (place : Place) (number : ℕ) (f : Option (Bor Function)) → slice_get functions number ≡ tree_in f → has_name f ≡ true
-      → rule.function_value functions go cx place number ≡ named_function functions go cx number (arity_in f) place
+      → expression.function_value by_slots functions go cx place number ≡ named_function functions go cx number (arity_in f) place
   own_function place number f e h = ap (value_of place number) e ∙ named_of place number (arity_in f) f (ap arity_of e ∙ arity_is f) h

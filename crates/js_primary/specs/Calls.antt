@@ -9,15 +9,16 @@ use Rattle.js_evaluation.specs.Objects.{Context}
 use Rattle.js_evaluation.specs.Conversions as convert
 use Rattle.js_frames.specs.declared.expression_frame.OpenCall.{OpenCall}
 use Rattle.js_frames.specs.RestOf.{suffixes_by}
-use Rattle.js_frames.specs.Rules as rule
-use Rattle.js_frames.specs.Rules.{Within}
+use Rattle.js_evaluation.specs.Expressions as rule
+use Rattle.js_evaluation.specs.Parts.{Within, calls}
+use Rattle.js_evaluation.specs.Scoping.{by_slots}
 
 module _ (functions : List FunctionTree) (go : Within) (cx : Context) where
   -- a call, and then the suffixes behind it
   abbrev pub call_value : OpenCall → List Value → Does Value
-  call_value call vs = convert.call_value (rule.call functions go cx) call.callee call.this vs call.place
+  call_value call vs = convert.call_value (calls go) call.callee call.this vs call.place
       >>= (λ w. suffixes_by functions go cx call.aim global_object w (suffixes_of call.rest.now))
 
   -- the arguments, the call, and then the suffixes behind it
   abbrev pub arguments_from : OpenCall → List Value → Expressions → Does Value
-  arguments_from call done left = rule.arguments_from functions go cx done left >>= (λ vs. call_value call vs)
+  arguments_from call done left = rule.arguments_from by_slots functions go cx done left >>= (λ vs. call_value call vs)

@@ -9,15 +9,14 @@ use Rattle.run_trees.specs.Runs.{◌>>=◌}
 use Rattle.js_evaluation.specs.State.{Does}
 use Rattle.js_evaluation.specs.Objects.{Context}
 use Rattle.js_evaluation.specs.Expressions as expression
-use Rattle.js_evaluation.specs.Evaluation as evaluation
-use Rattle.js_frames.specs.Rules as rule
-use Rattle.js_frames.specs.Rules.{Within}
+use Rattle.js_evaluation.specs.Parts.{Within}
+use Rattle.js_evaluation.specs.Scoping.{by_slots}
 
 module _ (functions : List FunctionTree) (go : Within) (cx : Context) where
   -- the arguments, and then the construction
   abbrev pub new_arguments : Value → List Value → Expressions → Place → Does Value
-  new_arguments callee done left place = rule.arguments_from functions go cx done left >>= (λ vs. rule.constructed functions go cx callee vs place)
+  new_arguments callee done left place = expression.arguments_from by_slots functions go cx done left >>= (λ vs. expression.constructed by_slots functions go callee vs place)
 
   -- the construction by an object of this kind
   abbrev pub constructed_by : Kind → ObjectId → List Value → Place → Does Value
-  constructed_by = expression.constructed_by functions (evaluation.visit functions go) (evaluation.visit_target functions go) (evaluation.call functions go) (evaluation.construct functions go)
+  constructed_by = expression.constructed_by by_slots functions go

@@ -9,7 +9,7 @@ use Rattle.heap_values.specs.declared.value.Value.{Value}
 use Rattle.run_trees.specs.Runs.{pure, ◌>>=◌}
 use Rattle.js_evaluation.specs.State.{Does, make_scope, write_slot}
 use Rattle.js_evaluation.specs.Objects.{Context, closure}
-use Rattle.js_frames.specs.Rules.{Within}
+use Rattle.js_evaluation.specs.Parts.{Within}
 
 -- how many parameters a function has
 abbrev pub arity_in : Option (Bor Function) → ℕ

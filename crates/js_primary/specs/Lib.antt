@@ -1,4 +1,3 @@
 pub mod Calls
 pub mod Creation
 pub mod Functions
-pub mod Literals

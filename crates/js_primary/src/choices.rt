@@ -1,6 +1,7 @@
 // `?:` and commas (ECMA-262 5.1, sections 11.12 and 11.14).
 ghost use Rattle.js_tree.specs.Tree.{expressions_of};
-ghost use Rattle.js_frames.specs.Rules as rule;
+ghost use Rattle.js_evaluation.specs.Expressions as rule;
+ghost use Rattle.js_evaluation.specs.Scoping.{by_slots};
 ghost use Rattle.js_frames.specs.RestOf.{after_expression};
 ghost use Rattle.js_frames.specs.declared.expression_frame.ExpressionFrame.TheVariants as of_expression;
 ghost use Rattle.js_machine.specs.Moves.{Moves, at};
@@ -17,7 +18,7 @@ pub fn conditional<'p>(
     held: &'p Expression,
     otherwise: &'p Expression,
 ) -> Step<'p>
-    ensures { Moves (at machine.old rule.conditional condition.entry.now held.entry.now otherwise.entry.now) machine.old result machine.new }
+    ensures { Moves (at machine.old (rule.conditional by_slots) condition.entry.now held.entry.now otherwise.entry.now) machine.old result machine.new }
 {
     let frame = ExpressionFrame::Conditional { held, otherwise };
     machine.evaluate(condition, Frame::Expression(frame))
@@ -41,7 +42,7 @@ pub fn chosen<'p>(
 
 /// Expressions that commas part, behind one that has this value.
 pub fn comma_from<'p>(machine: &mut Machine<'p>, value: Value, all: &'p [Expression]) -> Step<'p>
-    ensures { Moves (at machine.old rule.comma_from value (expressions_of all.entry.now)) machine.old result machine.new }
+    ensures { Moves (at machine.old (rule.comma_from by_slots) value (expressions_of all.entry.now)) machine.old result machine.new }
 {
     match all {
         [] => Ok(Now::Back(Ok(value))),

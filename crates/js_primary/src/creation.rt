@@ -1,10 +1,11 @@
 // `new` (ECMA-262 5.1, section 11.2.2).
 ghost use Rattle.heap_values.specs.declared.ids.Kind.TheVariants as kind;
 ghost use Rattle.js_tree.specs.Tree.{expressions_of};
-ghost use Rattle.js_frames.specs.Rules as rule;
+ghost use Rattle.js_evaluation.specs.Expressions as rule;
+ghost use Rattle.js_evaluation.specs.Scoping.{by_slots};
 ghost use Rattle.js_frames.specs.RestOf.{after_expression};
 ghost use Rattle.js_frames.specs.declared.expression_frame.ExpressionFrame.TheVariants as of_expression;
-ghost use Rattle.js_machine.specs.Moves.{Moves, at};
+ghost use Rattle.js_machine.specs.Moves.{Moves, at, anywhere};
 ghost use Rattle.js_primary.specs.Creation as spec;
 
 use heap_steps::Halt;
@@ -26,7 +27,7 @@ pub fn new_value<'p>(
     left: &'p [Expression],
     place: Place,
 ) -> Step<'p>
-    ensures { Moves (at machine.old rule.new_value place callee.entry.now (expressions_of left.entry.now)) machine.old result machine.new }
+    ensures { Moves (at machine.old (rule.new_value by_slots) place callee.entry.now (expressions_of left.entry.now)) machine.old result machine.new }
 {
     let frame = ExpressionFrame::Callee { left, place };
     machine.evaluate(callee, Frame::Expression(frame))
@@ -92,7 +93,7 @@ fn constructed<'p>(
     arguments: List<Value>,
     place: Place,
 ) -> Step<'p>
-    ensures { Moves (at machine.old rule.constructed callee.now arguments place) machine.old result machine.new }
+    ensures { Moves (anywhere machine.old (rule.constructed by_slots) callee.now arguments place) machine.old result machine.new }
 {
     match callee {
         Value::Object(object) => {

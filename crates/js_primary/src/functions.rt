@@ -1,6 +1,7 @@
 // Function expressions (ECMA-262 5.1, section 13).
 ghost use Rattle.std.specs.Prelude.{◌≡◌, IfOk};
-ghost use Rattle.js_frames.specs.Rules as rule;
+ghost use Rattle.js_evaluation.specs.Expressions as rule;
+ghost use Rattle.js_evaluation.specs.Scoping.{by_slots};
 ghost use Rattle.js_machine.specs.Moves.{Moves, at};
 ghost use Rattle.js_primary.specs.Functions as spec;
 
@@ -35,7 +36,7 @@ fn has_name(function: Option<&Function>) -> bool
 
 /// The function of this number; one with a name of its own has a scope for it.
 pub fn function_value<'p>(machine: &mut Machine<'p>, number: u32, place: Place) -> Step<'p>
-    ensures { Moves (at machine.old rule.function_value place number) machine.old result machine.new }
+    ensures { Moves (at machine.old (rule.function_value by_slots) place number) machine.old result machine.new }
 {
     let function = machine.functions.get(number as usize);
     let arity = arity(function)?;

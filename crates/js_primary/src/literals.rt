@@ -2,11 +2,11 @@
 ghost use Rattle.std.specs.Prelude.{◌≡◌, ◌+◌, IfOk, true};
 ghost use Rattle.js_tree.specs.Tree.{items_of};
 ghost use Rattle.js_tree.specs.View.{properties_of};
-ghost use Rattle.js_frames.specs.Rules as rule;
+ghost use Rattle.js_evaluation.specs.Expressions as rule;
+ghost use Rattle.js_evaluation.specs.Scoping.{by_slots};
 ghost use Rattle.js_frames.specs.RestOf.{after_expression};
 ghost use Rattle.js_frames.specs.declared.expression_frame.ExpressionFrame.TheVariants as of_expression;
 ghost use Rattle.js_machine.specs.Moves.{Moves, at};
-ghost use Rattle.js_primary.specs.Literals as spec;
 
 use heap_steps::{define, define_at, make_by, put, test_text};
 use heap_values::{BuiltIn, Kind, ObjectId, Value};
@@ -26,7 +26,7 @@ const OWN: Marks = Marks {
 
 /// A text. It isn't counted, and so must be short enough.
 pub fn text_literal<'p>(machine: &mut Machine<'p>, text: &'p Text, place: Place) -> Step<'p>
-    ensures { Moves (at machine.old spec.text_literal place text.entry.now) machine.old result machine.new }
+    ensures { Moves (rule.text_literal place text.entry.now) machine.old result machine.new }
 {
     test_text(text, place)?;
     let text = text.copy(machine.alloc)?;
@@ -39,7 +39,7 @@ pub fn array_literal<'p>(
     items: &'p [Option<Expression>],
     place: Place,
 ) -> Step<'p>
-    ensures { Moves (at machine.old rule.array_literal place (items_of items.entry.now)) machine.old result machine.new }
+    ensures { Moves (at machine.old (rule.array_literal by_slots) place (items_of items.entry.now)) machine.old result machine.new }
 {
     let heap = &mut machine.state.heap;
     let array = make_by(
@@ -61,7 +61,7 @@ fn items_from<'p>(
     items: &'p [Option<Expression>],
     place: Place,
 ) -> Step<'p>
-    ensures { Moves (at machine.old rule.items_from place array count hole (items_of items.entry.now)) machine.old result machine.new }
+    ensures { Moves (at machine.old (rule.items_from by_slots) place array count hole (items_of items.entry.now)) machine.old result machine.new }
 {
     let mut count = count;
     let mut hole = hole;
@@ -105,7 +105,7 @@ fn end_of_array<'p>(
     hole: bool,
     place: Place,
 ) -> Step<'p>
-    ensures { Moves (at machine.old spec.end_of_array place array count hole) machine.old result machine.new }
+    ensures { Moves (rule.end_of_array place array count hole) machine.old result machine.new }
 {
     if hole {
         return length_written(machine, array, count, place);
@@ -120,7 +120,7 @@ fn length_written<'p>(
     count: u32,
     place: Place,
 ) -> Step<'p>
-    ensures { Moves (at machine.old spec.end_of_array place array count true) machine.old result machine.new }
+    ensures { Moves (rule.end_of_array place array count true) machine.old result machine.new }
 {
     let name = Text::from_latin_1(machine.alloc, b"length")?;
     let length = Value::Number(Whole::from(count));
@@ -159,7 +159,7 @@ pub fn object_literal<'p>(
     properties: &'p [Property],
     place: Place,
 ) -> Step<'p>
-    ensures { Moves (at machine.old rule.object_literal place (properties_of properties.entry.now)) machine.old result machine.new }
+    ensures { Moves (at machine.old (rule.object_literal by_slots) place (properties_of properties.entry.now)) machine.old result machine.new }
 {
     let heap = &mut machine.state.heap;
     let object = make_by(
@@ -178,7 +178,7 @@ fn properties_from<'p>(
     properties: &'p [Property],
     place: Place,
 ) -> Step<'p>
-    ensures { Moves (at machine.old rule.properties_from place object (properties_of properties.entry.now)) machine.old result machine.new }
+    ensures { Moves (at machine.old (rule.properties_from by_slots) place object (properties_of properties.entry.now)) machine.old result machine.new }
 {
     match properties {
         [] => Ok(Now::Back(Ok(Value::Object(object)))),

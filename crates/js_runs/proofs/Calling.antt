@@ -23,7 +23,7 @@ use Rattle.run_trees.specs.RunTree.{RunTree, Done, Ask, Walked, Ended, Stopped, 
 use Rattle.js_evaluation.specs.Handed.{gives}
 use Rattle.js_evaluation.specs.PacNatives.{pac_end, pac_work}
 use Rattle.js_evaluation.proofs.Following.{walked_on, walks_on}
-use Rattle.js_frames.specs.Rules.{AfterValue}
+use Rattle.js_evaluation.specs.State.{AfterValue}
 use Rattle.js_frames.specs.RestOf.{rest_of}
 use Rattle.heap_steps.specs.declared.halt.Halt.{Halt}
 use Rattle.heap_steps.specs.declared.halt.Halt.TheVariants as halt

@@ -8,9 +8,12 @@ use Rattle.run_trees.specs.declared.abrupt.Abrupt.TheVariants as ending
 use Rattle.js_host.specs.Seen.{Seen}
 use Rattle.run_trees.specs.RunTree.{RunTree, Done, Walked, walk}
 use Rattle.js_evaluation.specs.declared.thrown.Thrown.{Thrown}
-use Rattle.js_evaluation.specs.State.{RunEnd, Comes, Stop}
-use Rattle.js_evaluation.specs.Evaluation.{part_place, node, outer_scope, outside}
-use Rattle.js_frames.specs.Rules.{AfterValue}
+use Rattle.js_evaluation.specs.State.{RunEnd, Comes, Stop, AfterValue}
+use Rattle.js_evaluation.specs.Evaluation.{node, outer_scope}
+use Rattle.js_evaluation.specs.Entries as entry
+use Rattle.js_evaluation.specs.Expressions as expression
+use Rattle.js_evaluation.specs.Statements as statement
+use Rattle.js_evaluation.specs.Scoping.{by_slots}
 use Rattle.js_frames.specs.Parts.{context_of}
 use Rattle.heap_steps.specs.declared.halt.Halt.{Halt}
 use Rattle.heap_steps.specs.declared.halt.Halt.TheVariants as halt
@@ -18,13 +21,12 @@ use Rattle.js_machine.specs.declared.machine.Machine.{Machine}
 use Rattle.js_machine.specs.declared.now.Now.{Now}
 use Rattle.js_machine.specs.declared.now.Now.TheVariants as now
 use Rattle.js_machine.specs.declared.now.Part.{Part}
-use Rattle.js_machine.specs.Moves.{Goes, Light, Moves, Descended, Descends, functions_of, inner, part_of, present, weight, waits}
+use Rattle.js_machine.specs.Moves.{Goes, Light, Moves, Descended, Descends, functions_of, inner, part_of, present, weight, waits, anywhere}
 use Rattle.js_machine.specs.declared.now.Part.TheVariants as part
 use Rattle.js_machine.specs.Moves.{at}
 use Rattle.js_frames.specs.declared.frame.Context.{Context as Around}
-use Rattle.js_frames.specs.Rules as rule
-use Rattle.js_evaluation.specs.Expressions.{expression_place}
-use Rattle.js_evaluation.specs.Statements.{statement_place, statement_node as statement_rule}
+use Rattle.js_evaluation.specs.Parts.{part_place, outside, expression_place, statement_place}
+use Rattle.js_evaluation.specs.Statements.{statement_node as statement_rule}
 use Rattle.js_tree.specs.View.{expression_of, statement_of, declarations_of}
 use Rattle.js_tree.specs.Tree.{ExpressionTree, StatementTree, statements_of}
 use Rattle.js_tree.specs.declared.statement.Declared.{Declared}
@@ -42,7 +44,7 @@ use Rattle.js_runs.specs.Closes.{Begins, Closed, Closes, KeptAtEnd, handed_on}
 module _ (part : Part) (place : Place) (m : Machine) where
   -- where the part is charged and has room, its rule goes on
   pub begins_with : (begun : Machine) (r : Result Now Halt) (m' : Machine) → part_place (part_of (context_of m.context) part) ≡ place
-      → Descended place m begun → Moves (node (functions_of begun) (inner begun) (part_of (context_of m.context) part)) begun r m'
+      → Descended place m begun → Moves (node by_slots (functions_of begun) (inner begun) (part_of (context_of m.context) part)) begun r m'
       → Begins part m r m'
   begins_with begun (Ok what) m' here d k = record { goes = λ last. d.goes_in last _ here ∙ k.goes last; light = omega (arith, d.less, k.light) }
   begins_with begun (Err (halt.Throw t)) m' here d k = record { goes = λ last. d.goes_in last _ here ∙ k.goes last; light = omega (arith, d.less, k.light) }
@@ -76,36 +78,36 @@ statement_stands p n = refl
 
 module _ (place : Place) (m begun : Machine) (r : Result Now Halt) (m' : Machine) (d : Descended place m begun) where
   pub begins_expression : (e : Bor ExpressionTree) → expression_place e.now ≡ place
-      → Moves (at begun rule.expression_node e.now) begun r m' → Begins (part.Expression e) m r m'
+      → Moves (at begun (expression.expression_node by_slots) e.now) begun r m' → Begins (part.Expression e) m r m'
   begins_expression e here k = begins_with (part.Expression e) place m begun r m' here d
-      (subst (λ (cx : Around). Moves (rule.expression_node (functions_of begun) (inner begun) (context_of cx) e.now) begun r m') d.around k)
+      (subst (λ (cx : Around). Moves (expression.expression_node by_slots (functions_of begun) (inner begun) (context_of cx) e.now) begun r m') d.around k)
 
   pub begins_statement : (s : Bor StatementTree) → statement_place s.now ≡ place
-      → Moves (at begun rule.statement_node s.now) begun r m' → Begins (part.Statement s) m r m'
+      → Moves (at begun (statement.statement_node by_slots) s.now) begun r m' → Begins (part.Statement s) m r m'
   begins_statement s here k = begins_with (part.Statement s) place m begun r m' here d
-      (subst (λ (cx : Around). Moves (rule.statement_node (functions_of begun) (inner begun) (context_of cx) s.now) begun r m') d.around k)
+      (subst (λ (cx : Around). Moves (statement.statement_node by_slots (functions_of begun) (inner begun) (context_of cx) s.now) begun r m') d.around k)
 
   pub begins_target : (e : Bor ExpressionTree) → expression_place e.now ≡ place
-      → Moves (at begun rule.target_node e.now) begun r m' → Begins (part.Target e) m r m'
+      → Moves (at begun (expression.target_node by_slots) e.now) begun r m' → Begins (part.Target e) m r m'
   begins_target e here k = begins_with (part.Target e) place m begun r m' here d
-      (subst (λ (cx : Around). Moves (rule.target_node (functions_of begun) (inner begun) (context_of cx) e.now) begun r m') d.around k)
+      (subst (λ (cx : Around). Moves (expression.target_node by_slots (functions_of begun) (inner begun) (context_of cx) e.now) begun r m') d.around k)
 
-  pub begins_declare : (all : Bor (List Declared)) → Moves (at begun rule.variables_from place (declarations_of all.now)) begun r m'
+  pub begins_declare : (all : Bor (List Declared)) → Moves (at begun (statement.variables_from by_slots) place (declarations_of all.now)) begun r m'
       → Begins (part.Declare place all) m r m'
   unfolding statement_rule
   begins_declare all k = begins_with (part.Declare place all) place m begun r m' refl d
-      (subst (λ (cx : Around). Moves (rule.variables_from (functions_of begun) (inner begun) (context_of cx) place (declarations_of all.now)) begun r m') d.around k)
+      (subst (λ (cx : Around). Moves (statement.variables_from by_slots (functions_of begun) (inner begun) (context_of cx) place (declarations_of all.now)) begun r m') d.around k)
 
-  pub begins_call : (f : ObjectId) (this : Value) (vs : List Value) → Moves (at begun rule.call_node f this vs place) begun r m'
+  pub begins_call : (f : ObjectId) (this : Value) (vs : List Value) → Moves (anywhere begun (entry.call_node by_slots) f this vs place) begun r m'
       → Begins (part.Call f this vs place) m r m'
   begins_call f this vs k = begins_with (part.Call f this vs place) place m begun r m' refl d k
 
-  pub begins_construct : (f : ObjectId) (vs : List Value) → Moves (at begun rule.construct_node f vs place) begun r m'
+  pub begins_construct : (f : ObjectId) (vs : List Value) → Moves (anywhere begun (entry.construct_node by_slots) f vs place) begun r m'
       → Begins (part.Construct f vs place) m r m'
   begins_construct f vs k = begins_with (part.Construct f vs place) place m begun r m' refl d k
 
   pub begins_load : (body : Bor (List StatementTree)) → place ≡ outside
-      → Moves (at begun rule.load_node outer_scope (statements_of body.now) outside) begun r m' → Begins (part.Load body) m r m'
+      → Moves (anywhere begun (entry.load_node by_slots) outer_scope (statements_of body.now) outside) begun r m' → Begins (part.Load body) m r m'
   begins_load body here k = begins_with (part.Load body) place m begun r m' (sym here) d k
 
 -- ---- steps of the loop

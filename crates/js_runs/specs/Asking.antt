@@ -9,9 +9,8 @@ use Rattle.pac_functions.specs.declared.call.PacFunction.TheVariants as function
 use Rattle.pac_functions.specs.Texts.{text_in}
 use Rattle.run_trees.specs.declared.abrupt.Abrupt.TheVariants as ending
 use Rattle.run_trees.specs.RunTree.{Walked, Ended, Stopped, walk}
-use Rattle.js_evaluation.specs.State.{RunEnd, Faults}
+use Rattle.js_evaluation.specs.State.{RunEnd, Faults, AfterValue}
 use Rattle.js_evaluation.specs.Handed.{gives}
-use Rattle.js_frames.specs.Rules.{AfterValue}
 use Rattle.heap_steps.specs.declared.halt.Halt.{Halt}
 use Rattle.heap_steps.specs.declared.halt.Halt.TheVariants as halt
 use Rattle.heap_steps.specs.Works.{plain_fault, left_out}

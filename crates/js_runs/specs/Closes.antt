@@ -4,8 +4,7 @@ use Rattle.heap_values.specs.declared.value.Value.{Value}
 use Rattle.run_trees.specs.declared.abrupt.Abrupt.TheVariants as ending
 use Rattle.js_host.specs.Seen.{Seen}
 use Rattle.run_trees.specs.RunTree.{Walked, Ended, Stopped, walk}
-use Rattle.js_evaluation.specs.State.{RunEnd, Faults, Stop}
-use Rattle.js_frames.specs.Rules.{AfterValue}
+use Rattle.js_evaluation.specs.State.{RunEnd, Faults, Stop, AfterValue}
 use Rattle.heap_steps.specs.declared.halt.Halt.{Halt}
 use Rattle.heap_steps.specs.declared.halt.Halt.TheVariants as halt
 use Rattle.heap_steps.specs.Works.{plain_fault, left_out}

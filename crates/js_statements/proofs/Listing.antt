@@ -8,14 +8,15 @@ use Rattle.heap_values.specs.declared.value.Value.{Value}
 use Rattle.heap_values.specs.declared.value.Value.TheVariants as value
 use Rattle.heap_values.specs.Views.{HeapView}
 use Rattle.run_trees.specs.Runs.{After, onward, ◌>>◌}
-use Rattle.js_evaluation.specs.State.{RunState, RunEnd, Stop}
+use Rattle.js_evaluation.specs.State.{RunState, RunEnd, Stop, AfterValue}
 use Rattle.js_evaluation.specs.Objects.{Context}
 use Rattle.js_frames.specs.declared.frame.Frame.TheVariants as frame
 use Rattle.js_frames.specs.declared.statement_frame.ForInLoop.{ForInLoop}
 use Rattle.js_frames.specs.declared.statement_frame.LoopFrame.TheVariants as of_loop
 use Rattle.js_frames.specs.Parts.{context_of}
-use Rattle.js_frames.specs.Rules as rule
-use Rattle.js_frames.specs.Rules.{Within, AfterValue}
+use Rattle.js_evaluation.specs.Statements as rule
+use Rattle.js_evaluation.specs.Parts.{Within}
+use Rattle.js_evaluation.specs.Scoping.{by_slots}
 use Rattle.js_frames.specs.RestOf.{names_from, rest_of}
 use Rattle.heap_steps.specs.declared.halt.Halt.{Halt}
 use Rattle.heap_steps.specs.Works.{state_with, Beside}
@@ -32,7 +33,7 @@ use Rattle.js_statements.proofs.Parts.{moves_as, moves_by}
 module _ (functions : List FunctionTree) (go : Within) (cx : Context) (h : HeapView) (fuel : ℕ) (beside : Beside) where
   -- the names that are listed are those of the heap
   pub lists : (object : Value) (after : After RunState Stop RunEnd (List (List ℕ)))
-      → rule.listed_names functions go cx object after (state_with h fuel beside) ≡ after (Ok (listed_in h object)) (state_with h fuel beside)
+      → rule.listed_names object after (state_with h fuel beside) ≡ after (Ok (listed_in h object)) (state_with h fuel beside)
   lists value.Undefined after = refl
   lists value.Null after = refl
   lists (value.Bool b) after = refl
@@ -66,33 +67,33 @@ module _ (functions : List FunctionTree) (go : Within) (cx : Context) (h : HeapV
 -- the names are listed and charged, and then the first of them has its turn
 module _ (m : Machine) (l : ForInLoop) (object : Value) (names : List (List ℕ)) (s : State) (are : names ≡ listed_in m.state.heap object) where
   lists_those : (last : AfterValue)
-      → left last m (at m resumed (frame.Loop (of_loop.ForInObject l)) (Ok object)) ≡ left last m (at m rule.charged_names l.place names >> at m names_from l object names)
+      → left last m (at m resumed (frame.Loop (of_loop.ForInObject l)) (Ok object)) ≡ left last m (rule.charged_names l.place names >> at m names_from l object names)
   lists_those last =
       lists (functions_of m) (inner m) (context_of m.context) m.state.heap m.state.fuel (beside_of m.state) object
-      (onward (λ ns. at m rule.charged_names l.place ns >> at m names_from l object ns) (rest_of (functions_of m) last m.frames))
-      ∙ ap (λ (ns : List (List ℕ)). left last m (at m rule.charged_names l.place ns >> at m names_from l object ns)) (sym are)
+      (onward (λ ns. rule.charged_names l.place ns >> at m names_from l object ns) (rest_of (functions_of m) last m.frames))
+      ∙ ap (λ (ns : List (List ℕ)). left last m (rule.charged_names l.place ns >> at m names_from l object ns)) (sym are)
 
-  pub lists_then : (r : Result Now Halt) (m' : Machine) → Acts (at m rule.charged_names l.place names) m.state (Ok tt) s
+  pub lists_then : (r : Result Now Halt) (m' : Machine) → Acts (rule.charged_names l.place names) m.state (Ok tt) s
       → Moves (at m names_from l object names) (with_state m s) r m' → Moves (at m resumed (frame.Loop (of_loop.ForInObject l)) (Ok object)) m r m'
-  lists_then r m' w k = moves_as r lists_those (acts_then (at m rule.charged_names l.place names) (λ _. at m names_from l object names) m s tt r m' w k)
+  lists_then r m' w k = moves_as r lists_those (acts_then (rule.charged_names l.place names) (λ _. at m names_from l object names) m s tt r m' w k)
 
-  pub lists_stops : (r : Result Now Halt) (e : Halt) → IsErrAnd r (λ x. x ≡ e) → Acts (at m rule.charged_names l.place names) m.state (Err e) s
+  pub lists_stops : (r : Result Now Halt) (e : Halt) → IsErrAnd r (λ x. x ≡ e) → Acts (rule.charged_names l.place names) m.state (Err e) s
       → Moves (at m resumed (frame.Loop (of_loop.ForInObject l)) (Ok object)) m r (with_state m s)
-  lists_stops r e i w = moves_as r lists_those (acts_stops (at m rule.charged_names l.place names) (λ _. at m names_from l object names) m s r e i w)
+  lists_stops r e i w = moves_as r lists_those (acts_stops (rule.charged_names l.place names) (λ _. at m names_from l object names) m s r e i w)
 
 module _ {m m' : Machine} {r : Result Now Halt} (l : ForInLoop) where
   -- the first value of a declared name, by what the target is
   pub first_by : (object : ExpressionTree) (t : ForTarget) → l.target.now ≡ t
-      → Moves (at m rule.first_of l.place (target_of t) >> at m evaluated object (frame.Loop (of_loop.ForInObject l))) m r m'
-      → Moves (at m rule.for_in_loop l.place (target_of l.target.now) object l.body.now) m r m'
-  first_by object t e k = moves_by (ap (λ (x : ForTarget). at m rule.first_of l.place (target_of x) >> at m evaluated object (frame.Loop (of_loop.ForInObject l))) e) k
+      → Moves (at m (rule.first_of by_slots) l.place (target_of t) >> at m evaluated object (frame.Loop (of_loop.ForInObject l))) m r m'
+      → Moves (at m (rule.for_in_loop by_slots) l.place (target_of l.target.now) object l.body.now) m r m'
+  first_by object t e k = moves_by (ap (λ (x : ForTarget). at m (rule.first_of by_slots) l.place (target_of x) >> at m evaluated object (frame.Loop (of_loop.ForInObject l))) e) k
 
   module _ (object : Value) (name : List ℕ) (names : List (List ℕ)) where
     -- the turn of a name, by what the target is
     pub named_by : (t : ForTarget) → l.target.now ≡ t
-        → Moves (at m rule.named_by l.place (target_of t) name >> at m executed l.body.now (frame.Loop (of_loop.ForInBody object names l))) m r m'
+        → Moves (at m (rule.named_by by_slots) l.place (target_of t) name >> at m executed l.body.now (frame.Loop (of_loop.ForInBody object names l))) m r m'
         → Moves (at m with_name name object names l) m r m'
-    named_by t e k = moves_by (ap (λ (x : ForTarget). at m rule.named_by l.place (target_of x) name >> at m executed l.body.now (frame.Loop (of_loop.ForInBody object names l))) e) k
+    named_by t e k = moves_by (ap (λ (x : ForTarget). at m (rule.named_by by_slots) l.place (target_of x) name >> at m executed l.body.now (frame.Loop (of_loop.ForInBody object names l))) e) k
 
 -- the next of the names that are left
 module _ (m : Machine) (l : ForInLoop) (object : Value) (all left_now : List (List ℕ))

@@ -3,8 +3,7 @@ use Rattle.std.proofs.Common.{◌≡◌, Ok, Err, Result, subst, sym, ◌∙◌}
 use Rattle.heap_values.specs.declared.value.Value.{Value}
 use Rattle.heap_values.specs.Views.{HeapView}
 use Rattle.run_trees.specs.Runs.{After}
-use Rattle.js_evaluation.specs.State.{RunState, RunEnd, Stop, Does}
-use Rattle.js_frames.specs.Rules.{AfterValue}
+use Rattle.js_evaluation.specs.State.{RunState, RunEnd, Stop, Does, AfterValue}
 use Rattle.heap_steps.specs.declared.halt.Halt.{Halt}
 use Rattle.heap_steps.specs.declared.halt.Halt.TheVariants as halt
 use Rattle.heap_steps.specs.Works.{Works}

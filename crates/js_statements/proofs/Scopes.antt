@@ -12,8 +12,7 @@ use Rattle.run_trees.specs.RunTree.{Done}
 use Rattle.run_trees.specs.Runs.{After}
 use Rattle.js_evaluation.specs.declared.fault.FaultCode.TheVariants as code
 use Rattle.js_evaluation.specs.declared.thrown.Thrown.{Thrown}
-use Rattle.js_evaluation.specs.State.{RunState, RunEnd, Comes, Faults, Stop, made, make_scope, write_slot}
-use Rattle.js_frames.specs.Rules.{AfterValue}
+use Rattle.js_evaluation.specs.State.{RunState, RunEnd, Comes, Faults, Stop, made, make_scope, write_slot, AfterValue}
 use Rattle.heap_steps.specs.declared.halt.Halt.{Halt}
 use Rattle.heap_steps.specs.declared.halt.Halt.TheVariants as halt
 use Rattle.heap_steps.specs.Works.{Works, Beside, state_with, plain_fault}

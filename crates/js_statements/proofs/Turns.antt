@@ -14,13 +14,15 @@ use Rattle.js_frames.specs.declared.frame.Frame.TheVariants as frame
 use Rattle.js_frames.specs.declared.statement_frame.LoopFrame.TheVariants as of_loop
 use Rattle.js_frames.specs.declared.statement_frame.WhileLoop.{WhileLoop}
 use Rattle.js_frames.specs.declared.statement_frame.ForLoop.{ForLoop}
-use Rattle.js_frames.specs.Rules as rule
-use Rattle.js_frames.specs.Rules.{Within}
+use Rattle.js_evaluation.specs.Statements as rule
+use Rattle.js_evaluation.specs.Parts.{Within, visit}
+use Rattle.js_evaluation.specs.Scoping.{by_slots}
+use Rattle.js_frames.specs.Parts.{context_of}
 use Rattle.js_frames.specs.RestOf.{while_turns, do_turns, for_turns, for_next}
 use Rattle.heap_steps.specs.declared.halt.Halt.{Halt}
 use Rattle.js_machine.specs.declared.machine.Machine.{Machine}
 use Rattle.js_machine.specs.declared.now.Now.{Now}
-use Rattle.js_machine.specs.Moves.{Moves, at, executed}
+use Rattle.js_machine.specs.Moves.{Moves, at, executed, inner}
 use Rattle.js_statements.proofs.Parts.{moves_by}
 
 module _ (functions : List FunctionTree) (go : Within) (cx : Context) where
@@ -38,7 +40,7 @@ module _ (m : Machine) (n : ℕ) (l : ForLoop) where
   -- a condition that is left out holds
   abbrev held : OptionalExpression → Does Value
   held absent = pure (value.Bool true)
-  held (present e) = at m rule.visit e
+  held (present e) = visit (inner m) (context_of m.context) e
 
   -- the body, where the condition has a value that is true
   abbrev body_if : Value → Does Value
@@ -54,5 +56,5 @@ module _ (m : Machine) (n : ℕ) (l : ForLoop) where
 
   -- the step behind a turn, by what it is
   pub stepped_by : {r : Result Now Halt} {m' : Machine} (o : Option (Box ExpressionTree Global)) → l.step.now ≡ o
-      → Moves (at m rule.evaluated_if (optional_box o) >> at m for_turns n l) m r m' → Moves (at m for_next n l) m r m'
-  stepped_by o e k = moves_by (ap (λ (p : Option (Box ExpressionTree Global)). at m rule.evaluated_if (optional_box p) >> at m for_turns n l) e) k
+      → Moves (at m (rule.evaluated_if by_slots) (optional_box o) >> at m for_turns n l) m r m' → Moves (at m for_next n l) m r m'
+  stepped_by o e k = moves_by (ap (λ (p : Option (Box ExpressionTree Global)). at m (rule.evaluated_if by_slots) (optional_box p) >> at m for_turns n l) e) k

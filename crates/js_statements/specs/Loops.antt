@@ -20,8 +20,9 @@ use Rattle.js_frames.specs.declared.statement_frame.ForLoop.{ForLoop}
 use Rattle.js_frames.specs.declared.statement_frame.ForInLoop.{ForInLoop}
 use Rattle.js_frames.specs.declared.statement_frame.LoopFrame.TheVariants as of_loop
 use Rattle.js_frames.specs.RestOf.{for_turns, names_from, turned_to}
-use Rattle.js_frames.specs.Rules as rule
-use Rattle.js_frames.specs.Rules.{Within}
+use Rattle.js_evaluation.specs.Statements as rule
+use Rattle.js_evaluation.specs.Parts.{Within, execute}
+use Rattle.js_evaluation.specs.Scoping.{by_slots}
 use Rattle.js_machine.specs.Moves.{evaluated}
 
 -- ---- the names of `for`-`in`
@@ -45,23 +46,23 @@ is_listed_in h v name = true
 module _ (functions : List FunctionTree) (go : Within) (cx : Context) where
   -- one turn more than there is fuel
   abbrev pub while_loop : Place → ExpressionTree → StatementTree → Does Value
-  while_loop place c body = reading (λ s. rule.while_turns functions go cx (suc s.fuel) place c body)
+  while_loop place c body = reading (λ s. rule.while_turns by_slots functions go cx (suc s.fuel) place c body)
 
   abbrev pub do_loop : Place → StatementTree → ExpressionTree → Does Value
-  do_loop place body c = reading (λ s. rule.do_turns functions go cx (suc s.fuel) place body c)
+  do_loop place body c = reading (λ s. rule.do_turns by_slots functions go cx (suc s.fuel) place body c)
 
   -- a `for` loop behind its start
   abbrev pub for_begun : ForLoop → Does Value
   for_begun l = reading (λ s. for_turns functions go cx (suc s.fuel) l)
 
   abbrev pub for_loop : StartTree → ForLoop → Does Value
-  for_loop start l = rule.started functions go cx start >> for_begun l
+  for_loop start l = rule.started by_slots functions go cx start >> for_begun l
 
   -- a `for`-`in` loop of a declared name
   abbrev pub declared_in : BoundName → OptionalExpression → ExpressionTree → ForInLoop → Does Value
-  declared_in name first object l = rule.declared functions go cx l.place name first >> evaluated functions go cx object (frame.Loop (of_loop.ForInObject l))
+  declared_in name first object l = rule.declared by_slots functions go cx l.place name first >> evaluated functions go cx object (frame.Loop (of_loop.ForInObject l))
 
   -- a name is written to the target, and then the body is executed
   abbrev pub with_name : List ℕ → Value → List (List ℕ) → ForInLoop → Does Value
-  with_name name object names l = rule.named_by functions go cx l.place (target_of l.target.now) name
-      >> (λ after. rule.execute functions go cx l.body.now (turned_to functions go cx (names_from functions go cx l object names) after))
+  with_name name object names l = rule.named_by by_slots functions go cx l.place (target_of l.target.now) name
+      >> (λ after. execute go cx l.body.now (turned_to functions go cx (names_from functions go cx l object names) after))

@@ -8,8 +8,9 @@ use Rattle.run_trees.specs.Runs.{◌>>◌}
 use Rattle.js_evaluation.specs.State.{Does, Stop}
 use Rattle.js_evaluation.specs.Objects.{Context}
 use Rattle.js_frames.specs.RestOf.{in_switch}
-use Rattle.js_frames.specs.Rules as rule
-use Rattle.js_frames.specs.Rules.{Within}
+use Rattle.js_evaluation.specs.Statements as rule
+use Rattle.js_evaluation.specs.Parts.{Within}
+use Rattle.js_evaluation.specs.Scoping.{by_slots}
 
 -- the end of a `switch` within which a part ends abruptly
 abbrev pub switch_end : Stop → Result Value Stop
@@ -20,13 +21,13 @@ switch_end (ending.Continued target) = Err (ending.Continued target)
 
 module _ (functions : List FunctionTree) (go : Within) (cx : Context) where
   abbrev pub from_match : Value → Clauses → Clauses → Does Value
-  from_match v all left = λ after. rule.from_match functions go cx v all left (in_switch functions go cx after)
+  from_match v all left = λ after. rule.from_match by_slots functions go cx v all left (in_switch functions go cx after)
 
   abbrev pub from_default : Clauses → Does Value
-  from_default all = λ after. rule.from_default functions go cx all (in_switch functions go cx after)
+  from_default all = λ after. rule.from_default by_slots functions go cx all (in_switch functions go cx after)
 
   abbrev pub clauses_from : Clauses → Does Value
-  clauses_from all = λ after. rule.clauses_from functions go cx all (in_switch functions go cx after)
+  clauses_from all = λ after. rule.clauses_from by_slots functions go cx all (in_switch functions go cx after)
 
   abbrev pub body_from : Statements → Clauses → Does Value
-  body_from body rest = λ after. (rule.statements_from functions go cx body >> rule.clauses_from functions go cx rest) (in_switch functions go cx after)
+  body_from body rest = λ after. (rule.statements_from by_slots functions go cx body >> rule.clauses_from by_slots functions go cx rest) (in_switch functions go cx after)

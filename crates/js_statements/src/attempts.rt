@@ -1,7 +1,8 @@
 // `try` (ECMA-262 5.1, section 12.14).
 ghost use Rattle.std.specs.Prelude.{Err};
 ghost use Rattle.js_tree.specs.View.{optional_catch, optional_statement};
-ghost use Rattle.js_frames.specs.Rules as rule;
+ghost use Rattle.js_evaluation.specs.Statements as rule;
+ghost use Rattle.js_evaluation.specs.Scoping.{by_slots};
 ghost use Rattle.js_frames.specs.declared.frame.Frame.TheVariants as frame;
 ghost use Rattle.js_frames.specs.declared.statement_frame.StatementFrame.TheVariants as of_statement;
 ghost use Rattle.js_machine.specs.Moves.{Moves, at, resumed};
@@ -23,7 +24,7 @@ pub fn tried<'p>(
     handler: &'p Option<Box<Catch>>,
     last: &'p Option<Box<Statement>>,
 ) -> Step<'p>
-    ensures { Moves (at machine.old rule.tried place block.entry.now (optional_catch handler.entry.now) (optional_statement last.entry.now)) machine.old result machine.new }
+    ensures { Moves (at machine.old (rule.tried by_slots) place block.entry.now (optional_catch handler.entry.now) (optional_statement last.entry.now)) machine.old result machine.new }
 {
     let frame = StatementFrame::TryBlock {
         place,
@@ -56,7 +57,7 @@ pub fn block_stopped<'p>(
     match handler {
         None => ended(machine, last, Err(stop)),
         Some(handler) => match stop {
-            Abrupt::Thrown(thrown) => handled(machine, place, &handler.body, thrown, last),
+            Abrupt::Thrown(thrown) => handled(machine, place, handler, thrown, last),
             Abrupt::Returned(value) => ended(machine, last, Err(Abrupt::Returned(value))),
             Abrupt::Broken(()) => ended(machine, last, Err(Abrupt::Broken(()))),
             Abrupt::Continued(()) => ended(machine, last, Err(Abrupt::Continued(()))),
@@ -68,16 +69,16 @@ pub fn block_stopped<'p>(
 fn handled<'p>(
     machine: &mut Machine<'p>,
     place: Place,
-    block: &'p Statement,
+    handler: &'p Catch,
     thrown: Thrown,
     last: &'p Option<Box<Statement>>,
 ) -> Step<'p>
-    ensures { Moves (at machine.old spec.handled place block.entry.now thrown (optional_statement last.entry.now)) machine.old result machine.new }
+    ensures { Moves (at machine.old spec.handled place handler.entry.now.name handler.entry.now.body thrown (optional_statement last.entry.now)) machine.old result machine.new }
 {
     let around = machine.context.scope;
     let heap = &mut machine.state.heap;
     let scope = make_scope(machine.alloc, heap, 1, around, place)?;
     heap.write_slot(scope, 0, thrown.value);
     let frame = StatementFrame::Handler { last };
-    machine.execute_in(scope, block, Frame::Statement(frame))
+    machine.execute_in(scope, &handler.body, Frame::Statement(frame))
 }

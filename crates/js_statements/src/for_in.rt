@@ -2,7 +2,8 @@
 ghost use Rattle.std.specs.Prelude.{Err, Ok};
 ghost use Rattle.js_tree.specs.Tree.{optional_of};
 ghost use Rattle.js_tree.specs.View.{target_of};
-ghost use Rattle.js_frames.specs.Rules as rule;
+ghost use Rattle.js_evaluation.specs.Statements as rule;
+ghost use Rattle.js_evaluation.specs.Scoping.{by_slots};
 ghost use Rattle.js_frames.specs.RestOf.{names_from};
 ghost use Rattle.js_frames.specs.declared.frame.Frame.TheVariants as frame;
 ghost use Rattle.js_frames.specs.declared.statement_frame.LoopFrame.TheVariants as of_loop;
@@ -25,7 +26,7 @@ pub fn for_in_loop<'p>(
     object: &'p Expression,
     looped: ForInLoop<'p>,
 ) -> Step<'p>
-    ensures { Moves (at machine.old rule.for_in_loop looped.entry.place (target_of looped.entry.target.now) object.entry.now looped.entry.body.now) machine.old result machine.new }
+    ensures { Moves (at machine.old (rule.for_in_loop by_slots) looped.entry.place (target_of looped.entry.target.now) object.entry.now looped.entry.body.now) machine.old result machine.new }
 {
     match looped.target {
         ForTarget::Expression(_) => object_of(machine, object, looped),

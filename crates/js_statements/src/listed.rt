@@ -1,9 +1,6 @@
 // The names that a `for`-`in` loop goes over (ECMA-262 5.1, section 12.6.4).
-ghost use Rattle.std.specs.Prelude.{◌≡◌, IfOk, List, map, length};
-ghost use Rattle.js_tree.specs.Tree.{FunctionTree};
-ghost use Rattle.js_evaluation.specs.Objects.{Context};
-ghost use Rattle.js_frames.specs.Rules as rule;
-ghost use Rattle.js_frames.specs.Rules.{Within};
+ghost use Rattle.std.specs.Prelude.{◌≡◌, IfOk, map, length};
+ghost use Rattle.js_evaluation.specs.Statements as rule;
 ghost use Rattle.std.specs.Fmt.{decimal};
 ghost use Rattle.std.specs.List.{range_with_len};
 ghost use Rattle.js_machine.specs.Acts.{Acts};
@@ -48,7 +45,7 @@ fn indexes(alloc: Global, text: &Text) -> Result<TextList, Memory>
 
 /// Each name of the list costs a unit, and is a text that is made.
 pub fn charge_names(state: &mut State, names: &[Text], place: Place) -> Result<(), Halt>
-    ensures { (functions : List FunctionTree) (go : Within) (cx : Context) → Acts (rule.charged_names functions go cx place names.now) state.old result state.new }
+    ensures { Acts (rule.charged_names place names.now) state.old result state.new }
 {
     for name in names {
         charge(&mut state.fuel, place)?;

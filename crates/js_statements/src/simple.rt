@@ -1,7 +1,8 @@
 // Blocks, expressions, `if`, `return` and `throw` (ECMA-262 5.1, sections 12.1 to 12.5, 12.9 and 12.13).
 ghost use Rattle.js_tree.specs.Tree.{statements_of};
 ghost use Rattle.js_tree.specs.View.{branches_of, optional_box, optional_statement};
-ghost use Rattle.js_frames.specs.Rules as rule;
+ghost use Rattle.js_evaluation.specs.Statements as rule;
+ghost use Rattle.js_evaluation.specs.Scoping.{by_slots};
 ghost use Rattle.js_frames.specs.declared.frame.Frame.TheVariants as frame;
 ghost use Rattle.js_frames.specs.declared.statement_frame.StatementFrame.TheVariants as of_statement;
 ghost use Rattle.js_machine.specs.Moves.{Moves, at, evaluated, resumed};
@@ -15,7 +16,7 @@ use run_trees::Abrupt;
 
 /// Statements, one after the other.
 pub fn statements_from<'p>(machine: &mut Machine<'p>, all: &'p [Statement]) -> Step<'p>
-    ensures { Moves (at machine.old rule.statements_from (statements_of all.entry.now)) machine.old result machine.new }
+    ensures { Moves (at machine.old (rule.statements_from by_slots) (statements_of all.entry.now)) machine.old result machine.new }
 {
     match all {
         [] => Ok(Now::Back(Ok(Value::Undefined))),
@@ -35,7 +36,7 @@ pub fn evaluate_alone<'p>(machine: &mut Machine<'p>, e: &'p Expression) -> Step<
 
 /// What is done where no condition holds.
 fn otherwise<'p>(machine: &mut Machine<'p>, last: &'p Option<Box<Statement>>) -> Step<'p>
-    ensures { Moves (at machine.old rule.otherwise (optional_statement last.entry.now)) machine.old result machine.new }
+    ensures { Moves (at machine.old (rule.otherwise by_slots) (optional_statement last.entry.now)) machine.old result machine.new }
 {
     match last {
         None => Ok(Now::Back(Ok(Value::Undefined))),
@@ -49,7 +50,7 @@ pub fn branches_from<'p>(
     all: &'p [Branch],
     last: &'p Option<Box<Statement>>,
 ) -> Step<'p>
-    ensures { Moves (at machine.old rule.branches_from (branches_of all.entry.now) (optional_statement last.entry.now)) machine.old result machine.new }
+    ensures { Moves (at machine.old (rule.branches_from by_slots) (branches_of all.entry.now) (optional_statement last.entry.now)) machine.old result machine.new }
 {
     match all {
         [] => otherwise(machine, last),
@@ -80,7 +81,7 @@ pub fn branched<'p>(
 
 /// `return`, with a value or without.
 pub fn returned<'p>(machine: &mut Machine<'p>, value: &'p Option<Box<Expression>>) -> Step<'p>
-    ensures { Moves (at machine.old rule.returned (optional_box value.entry.now)) machine.old result machine.new }
+    ensures { Moves (at machine.old (rule.returned by_slots) (optional_box value.entry.now)) machine.old result machine.new }
 {
     match value {
         None => Ok(Now::Back(Err(Abrupt::Returned(Value::Undefined)))),

@@ -1,5 +1,6 @@
 // A statement is begun.
-ghost use Rattle.js_frames.specs.Rules as rule;
+ghost use Rattle.js_evaluation.specs.Statements as rule;
+ghost use Rattle.js_evaluation.specs.Scoping.{by_slots};
 ghost use Rattle.js_machine.specs.Moves.{Moves, at};
 
 use crate::attempts::tried;
@@ -17,7 +18,7 @@ use run_trees::Abrupt;
 
 /// What a statement does, behind its charge.
 pub fn statement_node<'p>(machine: &mut Machine<'p>, s: &'p Statement) -> Step<'p>
-    ensures { Moves (at machine.old rule.statement_node s.entry.now) machine.old result machine.new }
+    ensures { Moves (at machine.old (rule.statement_node by_slots) s.entry.now) machine.old result machine.new }
 {
     let place = s.place;
     match &s.node {

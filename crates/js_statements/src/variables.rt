@@ -1,6 +1,7 @@
 // Variables (ECMA-262 5.1, section 12.2).
 ghost use Rattle.js_tree.specs.View.{declarations_of};
-ghost use Rattle.js_frames.specs.Rules as rule;
+ghost use Rattle.js_evaluation.specs.Statements as rule;
+ghost use Rattle.js_evaluation.specs.Scoping.{by_slots};
 ghost use Rattle.js_frames.specs.declared.frame.Frame.TheVariants as frame;
 ghost use Rattle.js_frames.specs.declared.statement_frame.StatementFrame.TheVariants as of_statement;
 ghost use Rattle.std.specs.Prelude.{Ok};
@@ -14,7 +15,7 @@ use js_tree::{BoundName, Declared, Place};
 
 /// Variables with their first values, one after the other. Without one nothing is done.
 pub fn variables_from<'p>(machine: &mut Machine<'p>, place: Place, all: &'p [Declared]) -> Step<'p>
-    ensures { Moves (at machine.old rule.variables_from place (declarations_of all.entry.now)) machine.old result machine.new }
+    ensures { Moves (at machine.old (rule.variables_from by_slots) place (declarations_of all.entry.now)) machine.old result machine.new }
 {
     let mut left = all;
     while let [declared, rest @ ..] = left {

@@ -1,5 +1,5 @@
 use Rattle.std.proofs.Common.{ap}
-use Rattle.js_evaluation.specs.Objects.{delete_bound}
+use Rattle.js_evaluation.specs.BySlots.{delete_bound}
 use Rattle.heap_steps.specs.Works.{state_with}
 use Rattle.heap_steps.proofs.Bounds.{by_number}
 use Rattle.heap_steps.proofs.Chains.{as_part}

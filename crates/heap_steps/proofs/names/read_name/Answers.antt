@@ -1,7 +1,7 @@
 use Rattle.std.proofs.Common.{Ok, refl, sym, ap, ◌∙◌}
 use Rattle.heap_values.specs.declared.ids.ScopeId.{ScopeId}
 use Rattle.object_heap.specs.Heap.{slot_of}
-use Rattle.js_evaluation.specs.Objects.{read_bound}
+use Rattle.js_evaluation.specs.BySlots.{read_bound}
 use Rattle.heap_steps.specs.Works.{state_with}
 use Rattle.heap_steps.proofs.Chains.{forgets, as_part}
 use Rattle.heap_steps.proofs.names.read_name.Goals as goal

@@ -2,8 +2,9 @@ use Rattle.std.proofs.Common.{refl, sym, ap, ◌∙◌}
 use Rattle.heap_values.specs.declared.value.Value.{Value}
 use Rattle.heap_values.specs.declared.value.Value.TheVariants as value
 use Rattle.object_heap.specs.Heap.{found_of}
+use Rattle.js_evaluation.specs.BySlots.{read_or_undefined_by}
 use Rattle.js_evaluation.specs.State.{Does}
-use Rattle.js_evaluation.specs.Objects.{found_value, read_or_undefined_by}
+use Rattle.js_evaluation.specs.Objects.{found_value}
 use Rattle.heap_steps.specs.Works.{state_with}
 use Rattle.heap_steps.proofs.Bounds.{by_number, stands}
 use Rattle.heap_steps.proofs.Chains.{forgets, as_part}

@@ -1,7 +1,7 @@
 use Rattle.std.proofs.Common.{◌≡◌, ◌<◌, ◌-◌, ℕ, arith, sym, ap, ◌∙◌}
 use Rattle.heap_values.specs.declared.ids.ScopeId.{ScopeId}
 use Rattle.heap_steps.proofs.Bounds.{out_some}
-use Rattle.js_evaluation.specs.Objects.{scope_out}
+use Rattle.js_evaluation.specs.BySlots.{scope_out}
 use Rattle.heap_steps.proofs.names.scope_out.Goals as goal
 
 pub loop-left-preserved : goal.loop-left-preserved

@@ -1,5 +1,5 @@
 use Rattle.std.proofs.Common.{◌≡◌}
-use Rattle.js_evaluation.specs.Objects.{scope_out}
+use Rattle.js_evaluation.specs.BySlots.{scope_out}
 use Rattle.heap_steps.proofs.names.scope_out.Given as goal
 
 abbrev pub invariant-loop-left : goal.invariant-loop-left

@@ -1,7 +1,7 @@
 use Rattle.std.proofs.Common.{Ok, sym, ap, ◌∙◌}
 use Rattle.heap_values.specs.declared.ids.ScopeId.{ScopeId}
 use Rattle.object_heap.specs.Heap.{slot_written_of}
-use Rattle.js_evaluation.specs.Objects.{write_bound}
+use Rattle.js_evaluation.specs.BySlots.{write_bound}
 use Rattle.heap_steps.specs.Works.{state_with}
 use Rattle.heap_steps.proofs.Bounds.{by_number}
 use Rattle.heap_steps.proofs.Chains.{as_part}

@@ -1,4 +1,4 @@
 use Rattle.js_entries.proofs.globals.declare_variables.Goals as goal
 
 pub returns : goal.returns
-returns c = λ all run. rw (c.as_slice.ensures, c.in_ok-add_variables.ensures, c.new-names.ensures) at (c.declare_names.ensures all run)
+returns c = rw (c.as_slice.ensures, c.in_ok-add_variables.ensures, c.new-names.ensures) at c.declare_names.ensures

@@ -5,13 +5,13 @@ use Rattle.std.specs.Prelude.{IfOk}
 use Rattle.js_entries.proofs.globals.gives_way.Goals as goal
 
 pub returns-in-None : goal.returns-in-None
-returns-in-None c = λ all run. gives_none all run (object_at c.args.heap.now c.args.object) c.args.name.now c.in-None.ensures
+returns-in-None c = gives_none (object_at c.args.heap.now c.args.object) c.args.name.now c.in-None.ensures
 
 pub returns-then-marks : goal.returns-then-marks
-returns-then-marks c = λ all run. gives_deletable all run (object_at c.args.heap.now c.args.object) c.args.name.now c.in-Some.marks c.in-Some.ensures c.if-marks.true
+returns-then-marks c = gives_deletable (object_at c.args.heap.now c.args.object) c.args.name.now c.in-Some.marks c.in-Some.ensures c.if-marks.true
 
 pub returns-then-marks-2 : goal.returns-then-marks-2
-returns-then-marks-2 c = λ all run. gives_listed all run (object_at c.args.heap.now c.args.object) c.args.name.now c.in-Some.marks c.in-Some.ensures c.if-marks.false c.if-marks-2.true
+returns-then-marks-2 c = gives_listed (object_at c.args.heap.now c.args.object) c.args.name.now c.in-Some.marks c.in-Some.ensures c.if-marks.false c.if-marks-2.true
 
 pub returns-else-marks-2 : goal.returns-else-marks-2
-returns-else-marks-2 c = λ all run. subst (λ (b : Bool). IfOk c.is_left_out.result (λ g. g ≡ b)) (gives_content all run (object_at c.args.heap.now c.args.object) c.args.name.now c.in-Some.marks c.in-Some.ensures c.if-marks.false c.if-marks-2.false) (c.is_left_out.ensures all run)
+returns-else-marks-2 c = subst (λ (b : Bool). IfOk c.is_left_out.result (λ g. g ≡ b)) (gives_content (object_at c.args.heap.now c.args.object) c.args.name.now c.in-Some.marks c.in-Some.ensures c.if-marks.false c.if-marks-2.false) c.is_left_out.ensures

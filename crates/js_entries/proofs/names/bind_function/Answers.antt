@@ -1,5 +1,5 @@
 use Rattle.std.proofs.Common.{refl, sym}
-use Rattle.js_evaluation.specs.Objects.{write_name}
+use Rattle.js_evaluation.specs.BySlots.{write_name}
 use Rattle.heap_values.specs.declared.value.Value.{Value}
 use Rattle.heap_steps.proofs.Chains.{chained, stops}
 use Rattle.js_entries.proofs.names.bind_function.Goals as goal

@@ -1,6 +1,6 @@
 use Rattle.js_expressions.proofs.Binary.{binary_else}
 use Rattle.js_machine.specs.Moves.{functions_of, inner}
-use Rattle.js_frames.specs.Rules as rule
+use Rattle.js_evaluation.specs.Parts.{calls}
 use Rattle.js_frames.specs.Parts.{context_of}
 use Rattle.js_expressions.proofs.operators.binary.Goals as goal
 
@@ -11,4 +11,4 @@ pub returns-in-InstanceOf : goal.returns-in-InstanceOf
 returns-in-InstanceOf c = rw c.in-InstanceOf.is c.instance_of.ensures
 
 pub returns : goal.returns
-returns c = rw (binary_else (rule.call (functions_of c.args.machine.now) (inner c.args.machine.now) (context_of c.args.machine.now.context)) _ _ _ _ c.in_default.not-In c.in_default.not-InstanceOf) c.converted.ensures
+returns c = rw (binary_else (calls (inner c.args.machine.now)) _ _ _ _ c.in_default.not-In c.in_default.not-InstanceOf) c.converted.ensures

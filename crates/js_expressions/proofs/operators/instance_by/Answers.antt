@@ -1,6 +1,6 @@
 use Rattle.js_expressions.proofs.Objects.{no_instance}
 use Rattle.js_machine.specs.Moves.{functions_of, inner}
-use Rattle.js_frames.specs.Rules as rule
+use Rattle.js_evaluation.specs.Parts.{calls}
 use Rattle.js_frames.specs.Parts.{context_of}
 use Rattle.js_expressions.proofs.operators.instance_by.Goals as goal
 
@@ -8,4 +8,4 @@ pub returns-in-Object : goal.returns-in-Object
 returns-in-Object c = rw c.in-Object.is c.descends.ensures
 
 pub returns-in_default : goal.returns-in_default
-returns-in_default c = rw (no_instance (rule.call (functions_of c.args.machine.now) (inner c.args.machine.now) (context_of c.args.machine.now.context)) _ _ _ c.in_default.not-Object) c.behind_operator.ensures
+returns-in_default c = rw (no_instance (calls (inner c.args.machine.now)) _ _ _ c.in_default.not-Object) c.behind_operator.ensures

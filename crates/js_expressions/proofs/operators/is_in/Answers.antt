@@ -1,6 +1,6 @@
 use Rattle.js_expressions.proofs.Objects.{in_nothing}
 use Rattle.js_machine.specs.Moves.{functions_of, inner}
-use Rattle.js_frames.specs.Rules as rule
+use Rattle.js_evaluation.specs.Parts.{calls}
 use Rattle.js_frames.specs.Parts.{context_of}
 use Rattle.js_expressions.proofs.operators.is_in.Goals as goal
 
@@ -8,4 +8,4 @@ pub returns-in-Object : goal.returns-in-Object
 returns-in-Object c = rw c.in-Object.is c.named_in.ensures
 
 pub returns : goal.returns
-returns c = rw (in_nothing (rule.call (functions_of c.args.machine.now) (inner c.args.machine.now) (context_of c.args.machine.now.context)) _ _ _ c.in_default.not-Object) c.type_error.ensures
+returns c = rw (in_nothing (calls (inner c.args.machine.now)) _ _ _ c.in_default.not-Object) c.type_error.ensures

@@ -1,6 +1,6 @@
 use Rattle.js_native_calls.proofs.Objects.{is_primitive}
 use Rattle.js_machine.specs.Moves.{functions_of, inner}
-use Rattle.js_frames.specs.Rules as rule
+use Rattle.js_evaluation.specs.Parts.{calls}
 use Rattle.js_frames.specs.Parts.{context_of}
 use Rattle.js_expressions.proofs.operators.named_in.Goals as goal
 
@@ -8,4 +8,4 @@ pub returns-in-Object : goal.returns-in-Object
 returns-in-Object c = rw c.in-Object.is c.convert.ensures
 
 pub returns-in_default : goal.returns-in_default
-returns-in_default c = rw (is_primitive (rule.call (functions_of c.args.machine.now) (inner c.args.machine.now) (context_of c.args.machine.now.context)) _ _ _ c.in_default.not-Object) c.with_in.ensures
+returns-in_default c = rw (is_primitive (calls (inner c.args.machine.now)) _ _ _ c.in_default.not-Object) c.with_in.ensures

@@ -2,12 +2,12 @@ use Rattle.std.proofs.Common.{refl}
 use Rattle.js_machine.proofs.Steps.{works_then, works_stops}
 use Rattle.js_native_calls.proofs.Steps.{gives}
 use Rattle.js_machine.specs.Moves.{functions_of, inner}
-use Rattle.js_frames.specs.Rules as rule
+use Rattle.js_evaluation.specs.Parts.{calls}
 use Rattle.js_frames.specs.Parts.{context_of}
 use Rattle.js_expressions.proofs.primitives.plus.Goals as goal
 
 pub returns-in_err-number : goal.returns-in_err-number
-returns-in_err-number c = λ m. works_stops _ _ _ _ _ _ c.from_residual.ensures.1 (rw c.to_number.ensures at (c.in_err-number.ensures (rule.call (functions_of m) (inner m) (context_of m.context)) m.state.heap))
+returns-in_err-number c = λ m. works_stops _ _ _ _ _ _ c.from_residual.ensures.1 (rw c.to_number.ensures at (c.in_err-number.ensures (calls (inner m)) m.state.heap))
 
 pub returns : goal.returns
-returns c = λ m. works_then _ _ _ _ _ (rw c.to_number.ensures at (c.in_ok-number.ensures (rule.call (functions_of m) (inner m) (context_of m.context)) m.state.heap)) (gives _ _ _ (λ after. refl))
+returns c = λ m. works_then _ _ _ _ _ (rw c.to_number.ensures at (c.in_ok-number.ensures (calls (inner m)) m.state.heap)) (gives _ _ _ (λ after. refl))

@@ -3,7 +3,7 @@ use Rattle.js_machine.proofs.Steps.{forgets, works_then, works_stops, with_heap}
 use Rattle.js_native_calls.proofs.Steps.{moves_as}
 use Rattle.js_native_calls.proofs.Objects.{text_of_message}
 use Rattle.js_machine.specs.Moves.{functions_of, inner, run_state}
-use Rattle.js_frames.specs.Rules as rule
+use Rattle.js_evaluation.specs.Parts.{calls}
 use Rattle.js_frames.specs.Parts.{context_of}
 use Rattle.js_evaluation.specs.State.{Does}
 use Rattle.js_evaluation.specs.Handed as handed
@@ -31,4 +31,4 @@ pub returns-in-Undefined : goal.returns-in-Undefined
 returns-in-Undefined c = works_then _ _ _ _ _ (rw c.in_ok-key.ensures at c.in_ok-message.ensures) (rw c.in-Undefined.is (rw (c.in_ok-name.ensures, c.in_ok-message-in-Undefined.ensures) at c.give_joined.ensures))
 
 pub returns : goal.returns
-returns c = works_then _ _ _ _ _ (rw c.in_ok-key.ensures at c.in_ok-message.ensures) (moves_as _ (with_heap c.args.machine.now c.get.new.heap) (handed.gives_text (natives.joined (text_of c.args.name.now) (text_of c.in_ok-message.message)) c.args.place) _ _ (λ after. ap (λ (p : Does (List ℕ)). (p >>= (λ message. handed.gives_text (natives.joined (text_of c.args.name.now) message) c.args.place)) after (run_state (with_heap c.args.machine.now c.get.new.heap).state)) (text_of_message (rule.call (functions_of c.args.machine.now) (inner c.args.machine.now) (context_of c.args.machine.now.context)) [] _ c.args.place c.in_default.not-Object c.in_default.not-Undefined)) (rw c.in_ok-name.ensures at c.error_message.ensures))
+returns c = works_then _ _ _ _ _ (rw c.in_ok-key.ensures at c.in_ok-message.ensures) (moves_as _ (with_heap c.args.machine.now c.get.new.heap) (handed.gives_text (natives.joined (text_of c.args.name.now) (text_of c.in_ok-message.message)) c.args.place) _ _ (λ after. ap (λ (p : Does (List ℕ)). (p >>= (λ message. handed.gives_text (natives.joined (text_of c.args.name.now) message) c.args.place)) after (run_state (with_heap c.args.machine.now c.get.new.heap).state)) (text_of_message (calls (inner c.args.machine.now)) [] _ c.args.place c.in_default.not-Object c.in_default.not-Undefined)) (rw c.in_ok-name.ensures at c.error_message.ensures))

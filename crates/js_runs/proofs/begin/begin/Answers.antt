@@ -1,6 +1,5 @@
 use Rattle.std.proofs.Common.{ap, refl, sym, ◌∙◌}
-use Rattle.js_evaluation.specs.Expressions.{expression_place}
-use Rattle.js_evaluation.specs.Statements.{statement_place}
+use Rattle.js_evaluation.specs.Parts.{expression_place, statement_place}
 use Rattle.js_runs.proofs.Loops.{begins_expression, begins_target, begins_statement, begins_declare, begins_call, begins_construct, begins_load, begins_stopped, expression_stands, statement_stands}
 use Rattle.js_runs.proofs.begin.begin.Goals as goal
 

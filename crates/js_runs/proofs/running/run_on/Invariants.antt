@@ -1,5 +1,5 @@
 use Rattle.std.proofs.Common.{◌≡◌, ◌+◌}
-use Rattle.js_frames.specs.Rules.{AfterValue}
+use Rattle.js_evaluation.specs.State.{AfterValue}
 use Rattle.js_machine.specs.declared.now.Now.TheVariants.{Begin}
 use Rattle.js_machine.specs.Moves.{present, weight, waits}
 use Rattle.run_trees.specs.RunTree.{walk}

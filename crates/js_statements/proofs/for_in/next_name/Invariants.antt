@@ -1,5 +1,5 @@
 use Rattle.std.proofs.Common.{◌≡◌, length}
-use Rattle.js_frames.specs.Rules.{AfterValue}
+use Rattle.js_evaluation.specs.State.{AfterValue}
 use Rattle.js_frames.specs.RestOf.{names_from}
 use Rattle.js_machine.specs.Moves.{at, left}
 use Rattle.js_statements.proofs.for_in.next_name.Given as goal

@@ -1,12 +1,13 @@
 use Rattle.std.proofs.Common.{◌≡◌, length}
 use Rattle.js_tree.specs.View.{declarations_of}
-use Rattle.js_frames.specs.Rules as rule
+use Rattle.js_evaluation.specs.Statements as rule
+use Rattle.js_evaluation.specs.Scoping.{by_slots}
 use Rattle.js_machine.specs.Moves.{at}
 use Rattle.js_statements.proofs.variables.variables_from.Given as goal
 
 abbrev pub invariant-loop-left : goal.invariant-loop-left
 invariant-loop-left l = record {
-  same : at l.fn.machine rule.variables_from l.fn.place (declarations_of l.all) ≡ at l.fn.machine rule.variables_from l.fn.place (declarations_of l.left);
+  same : at l.fn.machine (rule.variables_from by_slots) l.fn.place (declarations_of l.all) ≡ at l.fn.machine (rule.variables_from by_slots) l.fn.place (declarations_of l.left);
   unmoved : l.machine ≡ l.fn.machine;
 }
 
