@@ -20,7 +20,7 @@ use Rattle.session_log.proofs.Ends.{told_finite}
 use Rattle.pac_generate.specs.Answered.{IsAnswered}
 use Rattle.memory_talk.specs.Laws.{AreAddresses}
 use Rattle.memory_talk.proofs.Agreeing.{agrees}
-use Rattle.url_runs.specs.Runs.{Resolved, outcome_of, url_run}
+use Rattle.url_runs.specs.Runs.{ScriptRuns, outcome_of}
 use Rattle.url_runs.specs.Resolving.{end_by, ended, url_job}
 use Rattle.url_runs.proofs.Counting.{few}
 
@@ -33,25 +33,25 @@ with_end runs end = record { end = end; runs = runs }
 -- ---- against the map
 
 module _ (answers : AnswerMap) (terms : Terms) (turns : Turns) (small : AreAddresses answers) (answered : IsAnswered answers turns) where
-  same_outcome : (program : Resolved) (all : AnswerMap) → Holds all (told terms turns) → (entry : Entry) (lacking : Option Name) → url_job program entry (told terms turns) ≡ lacking
+  same_outcome : (program : ScriptRuns) (all : AnswerMap) → Holds all (told terms turns) → (entry : Entry) (lacking : Option Name) → url_job program entry (told terms turns) ≡ lacking
       → end_by lacking (outcome_of program all entry) ≡ end_by lacking (outcome_of program answers entry)
   same_outcome program all holds entry None finished =
-      ap (λ (run : WholeRun RunEnd). done (outcome_in run)) (agrees answers terms turns (url_run program entry) small answered finished all holds)
+      ap (λ (run : WholeRun RunEnd). done (outcome_in run)) (agrees answers terms turns (program entry) small answered finished all holds)
   same_outcome program all holds entry (Some name) lacking = refl
 
   -- how it ends with a URL is the same against each map that holds what is told
-  same_end : (program : Resolved) (all : AnswerMap) → Holds all (told terms turns) → (entry : Entry) → ended program all terms turns entry ≡ ended program answers terms turns entry
+  same_end : (program : ScriptRuns) (all : AnswerMap) → Holds all (told terms turns) → (entry : Entry) → ended program all terms turns entry ≡ ended program answers terms turns entry
   same_end program all holds entry =
       ap (with_end (runs_of terms turns (url_job program entry))) (same_outcome program all holds entry (url_job program entry (told terms turns)) refl)
 
-  same_ends : (program : Resolved) (all : AnswerMap) → Holds all (told terms turns) → (entries : List Entry) → map (ended program all terms turns) entries ≡ map (ended program answers terms turns) entries
+  same_ends : (program : ScriptRuns) (all : AnswerMap) → Holds all (told terms turns) → (entries : List Entry) → map (ended program all terms turns) entries ≡ map (ended program answers terms turns) entries
   same_ends program all holds [] = refl
   same_ends program all holds (entry ∷ entries) =
       ap (λ (end : UrlEnd). end ∷ map (ended program all terms turns) entries) (same_end program all holds entry)
       ∙ ap (λ (ends : List UrlEnd). ended program answers terms turns entry ∷ ends) (same_ends program all holds entries)
 
   -- what ends so against each map that holds what is told, ends so against the map
-  pub ends_by_map : (program : Resolved) (entries : List Entry) (ends : List UrlEnd) → ((all : AnswerMap) → Holds all (told terms turns) → ends ≡ map (ended program all terms turns) entries)
+  pub ends_by_map : (program : ScriptRuns) (entries : List Entry) (ends : List UrlEnd) → ((all : AnswerMap) → Holds all (told terms turns) → ends ≡ map (ended program all terms turns) entries)
       → ends ≡ map (ended program answers terms turns) entries
   ends_by_map program entries ends each =
       let finite = told_finite terms turns in
@@ -60,13 +60,13 @@ module _ (answers : AnswerMap) (terms : Terms) (turns : Turns) (small : AreAddre
 
 -- ---- few runs
 
-runs_few : (program : Resolved) (all : AnswerMap) (terms : Terms) (turns : Turns) → Holds all (told terms turns) → (entry : Entry) → (ended program all terms turns entry).runs ≤ MOST_NAMES + 1
+runs_few : (program : ScriptRuns) (all : AnswerMap) (terms : Terms) (turns : Turns) → Holds all (told terms turns) → (entry : Entry) → (ended program all terms turns entry).runs ≤ MOST_NAMES + 1
 runs_few program all terms turns holds entry =
     let bound = few program entry terms turns all holds in
-    let names = (few-rest all (url_run program entry) [] few-none).few in
+    let names = (few-rest all (program entry) [] few-none).few in
     omega (arith, bound, names)
 
-sum_few : (program : Resolved) (all : AnswerMap) (terms : Terms) (turns : Turns) → Holds all (told terms turns) → (entries : List Entry)
+sum_few : (program : ScriptRuns) (all : AnswerMap) (terms : Terms) (turns : Turns) → Holds all (told terms turns) → (entries : List Entry)
     → sum_by (λ (end : UrlEnd). end.runs) (map (ended program all terms turns) entries) ≤ (MOST_NAMES + 1) * length entries
 sum_few program all terms turns holds [] = omega arith
 sum_few program all terms turns holds (entry ∷ entries) =
@@ -83,7 +83,7 @@ sum_seen (end ∷ ends) =
     ∙ ap (λ (n : ℕ). end.runs + n) (sum_seen ends)
     ∙ sym (sum_by-cons (λ (x : code.UrlEnd). x.runs) end ends)
 
-pub runs_fit : (program : Resolved) (terms : Terms) (turns : Turns) (entries : List Entry) (ends : List code.UrlEnd)
+pub runs_fit : (program : ScriptRuns) (terms : Terms) (turns : Turns) (entries : List Entry) (ends : List code.UrlEnd)
     → ((all : AnswerMap) → Holds all (told terms turns) → map seen_end ends ≡ map (ended program all terms turns) entries)
     → sum_by (λ (end : code.UrlEnd). end.runs) ends ≤ (MOST_NAMES + 1) * length entries
 runs_fit program terms turns entries ends each =

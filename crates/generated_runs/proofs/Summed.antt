@@ -26,7 +26,7 @@ use Rattle.memory_talk.specs.Numbers.{counted}
 use Rattle.memory_talk.specs.Talks.{MemoryTalk}
 use Rattle.memory_talk.proofs.Answering.{answering}
 use Rattle.memory_talk.proofs.Ends.{answered_early, answered_whole, names_counted, same_log}
-use Rattle.url_runs.specs.Runs.{Resolved}
+use Rattle.url_runs.specs.Runs.{ScriptRuns}
 use Rattle.url_runs.specs.Ends.{HaveEnded}
 use Rattle.url_runs.specs.Resolving.{ended, urls_talk}
 use Rattle.generated_runs.specs.declared.summing.Seed.{Seed}
@@ -55,7 +55,7 @@ pub record IsBeside (o inner inner' : Outside) (link : MapLinkState) (n : ℕ) :
   pub drew : inner'.dice ≡ Some (counted n)
   pub runs : o.runs ≡ inner.runs
 
-module _ (answers : AnswerMap) (asking : Asking) (program : Resolved) (entries : List Entry) (o inner inner' : Outside) (link : MapLinkState) (n : ℕ)
+module _ (answers : AnswerMap) (asking : Asking) (program : ScriptRuns) (entries : List Entry) (o inner inner' : Outside) (link : MapLinkState) (n : ℕ)
     (beside : IsBeside o inner inner' link n) (answered : IsAnswered answers (turns_of link.log)) where
   abbrev after : Outside
   after = record o { runs = inner'.runs }

@@ -14,7 +14,7 @@ use Rattle.report_text.specs.Report.{End, UrlEnd, result_of}
 use Rattle.pac_generate.specs.Summary.{kinds_of, summary_text}
 use Rattle.pac_generate.specs.declared.summary.Summary.{Summary}
 use Rattle.memory_talk.specs.Talks.{MemoryTalk}
-use Rattle.url_runs.specs.Runs.{Resolved}
+use Rattle.url_runs.specs.Runs.{ScriptRuns}
 use Rattle.url_runs.specs.Resolving.{ended, urls_talk}
 use Rattle.generated_runs.specs.declared.summing.Seed.{Seed}
 
@@ -48,11 +48,11 @@ abbrev pub said : Summary → Output
 said s = record { status = status.Good; text = summary_text s }
 
 -- what is polled for, answered from a map
-abbrev pub answered_talk : AnswerMap → Asking → Resolved → List Entry → MemoryTalk
+abbrev pub answered_talk : AnswerMap → Asking → ScriptRuns → List Entry → MemoryTalk
 answered_talk answers asking program entries = record { answers = answers; task = (urls_talk asking program entries).task }
 
 -- polls for all URLs, and sums up by the log: the names that were sent in it, and how it ends with each URL against the map
-abbrev pub sum_plan : Seed → AnswerMap → Asking → Resolved → List Entry → Plan MemoryTalk
+abbrev pub sum_plan : Seed → AnswerMap → Asking → ScriptRuns → List Entry → Plan MemoryTalk
 sum_plan from answers asking program entries =
     talk (answered_talk answers asking program entries)
     (λ log. said (summary from (length (firsts (turns_of log))) (map (ended program answers asking.terms (turns_of log)) entries)))

@@ -9,7 +9,7 @@ ghost use Rattle.pac_plan.specs.OutputView.{made};
 ghost use Rattle.memory_talk.specs.Laws.{AreAddresses};
 ghost use Rattle.memory_talk.proofs.Answering.{answering};
 ghost use Rattle.report_text.specs.Report.{seen, seen_end};
-ghost use Rattle.url_runs.specs.Runs.{program_of};
+ghost use Rattle.url_runs.specs.Runs.{program_runs};
 ghost use Rattle.generated_runs.specs.Summing as plan;
 
 use answer_table::AnswerTable;
@@ -56,7 +56,7 @@ pub fn sum_urls<L: Ledger>(
     requires terms { AreTerms network.asking.terms }
     requires addresses { AreAddresses network.answers.now }
     requires few { length entries.items ≤ MOST_URLS }
-    ensures { (o : Outside) → Follows answering (plan.sum_plan from network.entry.answers.now network.entry.asking (program_of program.now) (map entry_of entries.items))
+    ensures { (o : Outside) → Follows answering (plan.sum_plan from network.entry.answers.now network.entry.asking (program_runs program.now) (map entry_of entries.items))
         (record o { runs = runs.old }) (record o { runs = runs.new }) (made result) }
 {
     summed::<Brand, L>(alloc, from, program, entries, network, runs)
@@ -75,7 +75,7 @@ fn summed<K: KnownAnswers, L: Ledger>(
     requires addresses { AreAddresses network.answers.now }
     requires few { length entries.items ≤ MOST_URLS }
     requires known { network.answers.now ≡ K.answers }
-    ensures { (o : Outside) → Follows answering (plan.sum_plan from network.entry.answers.now network.entry.asking (program_of program.now) (map entry_of entries.items))
+    ensures { (o : Outside) → Follows answering (plan.sum_plan from network.entry.answers.now network.entry.asking (program_runs program.now) (map entry_of entries.items))
         (record o { runs = runs.old }) (record o { runs = runs.new }) (made result) }
 {
     let asking = network.asking;

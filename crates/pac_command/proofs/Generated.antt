@@ -12,7 +12,7 @@ use Rattle.js_host.specs.Answers.{AnswerMap}
 use Rattle.js_evaluation.specs.Evaluation.{Entry}
 use Rattle.js_interp.specs.declared.entry.Entry as code
 use Rattle.js_interp.specs.Answers.{entry_of}
-use Rattle.js_binding.specs.Resolved.{resolved}
+use Rattle.js_evaluation.specs.Evaluation.{run_by_names}
 use Rattle.pac_generate.specs.Generated.{generated, script, site_line, site_lines}
 use Rattle.pac_plan.specs.Plan as plans
 use Rattle.pac_plan.specs.Plan.{Outside, Plan}
@@ -20,7 +20,7 @@ use Rattle.pac_plan.specs.Follows.{Follows, IsUnlessMemory}
 use Rattle.poll_loop.specs.declared.looping.Asking.{Asking}
 use Rattle.memory_talk.specs.Talks.{MemoryTalk}
 use Rattle.memory_talk.proofs.Answering.{answering}
-use Rattle.url_runs.specs.Runs.{Resolved}
+use Rattle.url_runs.specs.Runs.{ScriptRuns}
 use Rattle.generated_runs.specs.declared.summing.Seed.{Seed}
 use Rattle.generated_runs.specs.Summing.{sum_plan}
 use Rattle.pac_command.specs.declared.given.Given.{Given}
@@ -61,7 +61,7 @@ few_entries given seed sites entries low same =
 
 module _ (seed sites : ℕ) where
   abbrev pub summing : List StatementTree → Plan MemoryTalk
-  summing body = sum_plan (record { seed = seed; sites = sites }) (generated seed sites).map usual_asking (resolved body) (entries_for usual_given (generated_batch seed sites))
+  summing body = sum_plan (record { seed = seed; sites = sites }) (generated seed sites).map usual_asking (run_by_names body) (entries_for usual_given (generated_batch seed sites))
 
   -- the script is read
   pub sums : (body : List StatementTree) (old new : Outside) (made : Option plans.Output) → script_of_text (generated seed sites).script ≡ Ok body
@@ -76,11 +76,11 @@ module _ (seed sites : ℕ) where
       subst (λ (r : Result (List StatementTree) Refusal). Follows answering (if_read r (λ refusal. plans.say (refused_script refusal)) summing) o o made) (sym read) (refl, h)
 
 -- what is summed up for equals
-pub summed_is : (from : Seed) (map other : AnswerMap) (asking usual : Asking) (program script : Resolved) (had asked : List Entry) (old new : Outside) (made : Option plans.Output)
+pub summed_is : (from : Seed) (map other : AnswerMap) (asking usual : Asking) (program script : ScriptRuns) (had asked : List Entry) (old new : Outside) (made : Option plans.Output)
     → map ≡ other → asking ≡ usual → script ≡ program → had ≡ asked
     → Follows answering (sum_plan from map asking program had) old new made → Follows answering (sum_plan from other usual script asked) old new made
 summed_is from map other asking usual program script had asked old new made m a p e h =
     subst (λ (x : AnswerMap). Follows answering (sum_plan from x usual script asked) old new made) m
     (subst (λ (x : Asking). Follows answering (sum_plan from map x script asked) old new made) a
-    (subst (λ (x : Resolved). Follows answering (sum_plan from map asking x asked) old new made) (sym p)
+    (subst (λ (x : ScriptRuns). Follows answering (sum_plan from map asking x asked) old new made) (sym p)
     (subst (λ (x : List Entry). Follows answering (sum_plan from map asking program x) old new made) e h)))

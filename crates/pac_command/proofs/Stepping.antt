@@ -11,7 +11,7 @@ use Rattle.pac_plan.specs.Plan.{Outside}
 use Rattle.pac_plan.specs.declared.output.Output.{Output}
 use Rattle.pac_plan.proofs.GivesUp.{gives_up}
 use Rattle.pac_ask.specs.Talks.{talks}
-use Rattle.url_runs.specs.Runs.{Resolved, program_of}
+use Rattle.url_runs.specs.Runs.{ScriptRuns, program_runs}
 use Rattle.pac_command.specs.declared.early.Early.{Early}
 use Rattle.pac_command.specs.declared.early.Early.TheVariants as early
 use Rattle.pac_command.specs.Plans.{CommandPlan, Follows}
@@ -52,10 +52,18 @@ pub said_is : (r : Result Output Early) (this : Early) → IsErrAnd r (IsThis th
 said_is (Ok output) this h = absurd h
 said_is (Err e) this h = ap said h
 
--- what is followed with the program of a script is followed with the script
-pub program_is : (plan : Resolved → CommandPlan) (script : Resolved) (program : Program) (old new : Outside) (made : Option plans.Output)
-    → IsProgramOf script program → Follows (plan (program_of program)) old new made → Follows (plan script) old new made
-program_is plan script program old new made same h = subst (λ (p : Resolved). Follows (plan p) old new made) (sym same) h
+-- the runs of the program of a script that was read are those of the script by its names
+pub runs_are : (script : List StatementTree) (program : Program) → WasRead script → IsProgramOf (resolved script) program
+    → run_by_names script ≡ program_runs program
+runs_are script program read same =
+    λ i entry. (reads_by_names read.0 script entry read.1 ∙ ap (λ (p : Statements × List FunctionTree). run_tree p.0 p.1 entry) same) i
+
+-- so what is followed with these is followed with those
+pub program_is : (plan : ScriptRuns → CommandPlan) (script : List StatementTree) (program : Program) (old new : Outside) (made : Option plans.Output)
+    → WasRead script → IsProgramOf (resolved script) program → Follows (plan (program_runs program)) old new made
+    → Follows (plan (run_by_names script)) old new made
+program_is plan script program old new made read same h =
+    subst (λ (runs : ScriptRuns). Follows (plan runs) old new made) (sym (runs_are script program read same)) h
 
 -- what is followed with runs for these is followed with runs for their equals
 pub entries_are : (plan : List Entry → CommandPlan) (asked had : List Entry) (old new : Outside) (made : Option plans.Output)

@@ -10,8 +10,8 @@ use Rattle.pac_command.specs.Plans.{CommandPlan, Doing, over_link, in_memory}
 use Rattle.batch_text.specs.Batch.{BatchEntry}
 use Rattle.js_host.specs.Answers.{AnswerMap}
 use Rattle.js_tree.specs.Tree.{StatementTree}
-use Rattle.js_binding.specs.Resolved.{resolved}
-use Rattle.url_runs.specs.Runs.{Resolved}
+use Rattle.js_evaluation.specs.Evaluation.{run_by_names}
+use Rattle.url_runs.specs.Runs.{ScriptRuns}
 use Rattle.url_runs.specs.Resolving as resolving_urls
 use Rattle.url_runs.specs.Resolving.{Completion}
 use Rattle.url_runs.specs.Mapping as mapping_urls
@@ -33,12 +33,12 @@ asking_of a = record { server = record { address = a.server.address; port = a.se
 -- ---- `resolve`
 
 -- runs a script for the URLs of a batch at once, over the link, and reports
-abbrev pub resolve_batch : Completion → loop.Asking → Given → Resolved → List BatchEntry → CommandPlan
+abbrev pub resolve_batch : Completion → loop.Asking → Given → ScriptRuns → List BatchEntry → CommandPlan
 resolve_batch complete how given script batch = resolving_urls.resolve_plan complete how script batch (entries_for given batch)
 
 -- reads the URLs before
 abbrev pub resolve_script : Completion → Source → loop.Asking → Given → List StatementTree → CommandPlan
-resolve_script complete source how given script = urls_from given source (resolve_batch complete how given (resolved script))
+resolve_script complete source how given script = urls_from given source (resolve_batch complete how given (run_by_names script))
 
 -- and the script before these
 abbrev pub resolve_plan : Completion → List ℕ → Source → loop.Asking → Given → CommandPlan
@@ -47,12 +47,12 @@ resolve_plan complete script source how given = script_from script (resolve_scri
 -- ---- `map`
 
 -- runs a script once for each URL of a batch, against these answers, and reports
-abbrev pub map_batch : Given → Resolved → AnswerMap → List BatchEntry → CommandPlan
+abbrev pub map_batch : Given → ScriptRuns → AnswerMap → List BatchEntry → CommandPlan
 map_batch given script answers batch = mapping_urls.map_plan script answers batch (entries_for given batch)
 
 -- reads the URLs before
 abbrev pub map_answers : Source → Given → List StatementTree → AnswerMap → CommandPlan
-map_answers source given script answers = urls_from given source (map_batch given (resolved script) answers)
+map_answers source given script answers = urls_from given source (map_batch given (run_by_names script) answers)
 
 -- the file of names before these
 abbrev pub map_script : List ℕ → Source → Given → List StatementTree → CommandPlan

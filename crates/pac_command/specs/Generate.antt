@@ -1,7 +1,7 @@
 -- What `generate` does.
 use Rattle.std.specs.Prelude.{ℕ, List, pos, map}
 use Rattle.batch_text.specs.Batch.{BatchEntry, entry_seen}
-use Rattle.js_binding.specs.Resolved.{resolved}
+use Rattle.js_evaluation.specs.Evaluation.{run_by_names}
 use Rattle.js_grammar.specs.Statements.{script_of_text}
 use Rattle.pac_generate.specs.Generated.{generated}
 use Rattle.pac_generate.specs.declared.generating.TheConstants.{MOMENT}
@@ -35,4 +35,4 @@ generated_batch seed sites = map entry_seen (generated seed sites).batch
 abbrev pub generate_plan : ℕ → ℕ → Plan MemoryTalk
 generate_plan seed sites =
     if_read (script_of_text (generated seed sites).script) (λ refusal. say (refused_script refusal))
-    (λ script. sum_plan (record { seed = seed; sites = sites }) (generated seed sites).map usual_asking (resolved script) (entries_for usual_given (generated_batch seed sites)))
+    (λ script. sum_plan (record { seed = seed; sites = sites }) (generated seed sites).map usual_asking (run_by_names script) (entries_for usual_given (generated_batch seed sites)))

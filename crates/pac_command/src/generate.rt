@@ -1,6 +1,6 @@
 // `generate`: a large input from two numbers, resolved over a link in memory and summed up.
 ghost use Rattle.std.specs.Prelude.{◌≡◌, ◌≤◌};
-ghost use Rattle.js_binding.specs.Resolved.{resolved};
+ghost use Rattle.js_evaluation.specs.Evaluation.{run_by_names};
 ghost use Rattle.pac_plan.specs.Plan.{Outside};
 ghost use Rattle.pac_plan.specs.Follows.{Follows};
 ghost use Rattle.pac_plan.specs.OutputView.{made};
@@ -9,6 +9,7 @@ ghost use Rattle.memory_talk.proofs.Answering.{answering};
 ghost use Rattle.pac_generate.specs.Generated.{generated};
 ghost use Rattle.generated_runs.specs.Summing.{sum_plan};
 ghost use Rattle.pac_command.specs.Generate as plan;
+ghost use Rattle.pac_command.specs.Scripts.{WasRead};
 ghost use Rattle.pac_command.specs.Urls.{entries_for};
 
 use crate::given::Given;
@@ -64,7 +65,8 @@ fn sum_script<L: Ledger>(
 ) -> Result<Output, Memory>
     requires few { from.sites ≤ MOST_URLS }
     requires input { input.now ≡ generated from.seed from.sites }
-    ensures { (o : Outside) → Follows answering (sum_plan from (generated from.seed from.sites).map plan.usual_asking (resolved script) (entries_for plan.usual_given (plan.generated_batch from.seed from.sites)))
+    requires read { WasRead script }
+    ensures { (o : Outside) → Follows answering (sum_plan from (generated from.seed from.sites).map plan.usual_asking (run_by_names script) (entries_for plan.usual_given (plan.generated_batch from.seed from.sites)))
         (record o { runs = runs.old }) (record o { runs = runs.new }) (made result) }
 {
     let entries = entries_for(alloc, &input.batch, &usual_given())?;

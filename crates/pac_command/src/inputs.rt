@@ -3,7 +3,7 @@ ghost use Rattle.std.specs.Prelude.{◌≡◌, ◌≤◌, length, IfOk};
 ghost use Rattle.utf16_text.specs.Decode.{decoded_units};
 ghost use Rattle.pac_plan.specs.Plan.{Outside, read};
 ghost use Rattle.pac_command.specs.Steps.{IsStep, items_of};
-ghost use Rattle.pac_command.specs.Scripts.{script_from, script_then};
+ghost use Rattle.pac_command.specs.Scripts.{WasRead, script_from, script_then};
 ghost use Rattle.pac_command.specs.Names as spec;
 ghost use Rattle.pac_command.specs.Names.{names_from, names_then};
 ghost use Rattle.utf16_text.specs.declared.limits.TheConstants.{LONGEST_FILE};
@@ -51,8 +51,9 @@ pub(crate) fn read_script_file<F: Files>(
     name: &str,
     files: &mut F,
 ) -> Result<Script, Early>
-    ensures { (o : Outside) → IsStep (script_from name.now)
+    ensures step { (o : Outside) → IsStep (script_from name.now)
         (record o { files = F.state files.old }) result (record o { files = F.state files.new }) }
+    ensures read { IfOk result WasRead }
 {
     let bytes = read_file(alloc, "script", name, files)?;
     script_in(alloc, &bytes)
@@ -61,7 +62,8 @@ pub(crate) fn read_script_file<F: Files>(
 /// The script that these bytes spell.
 fn script_in(alloc: Global, bytes: &[u8]) -> Result<Script, Early>
     requires { length bytes.now ≤ LONGEST_FILE }
-    ensures { (o : Outside) → IsStep (script_then bytes.now) o result o }
+    ensures step { (o : Outside) → IsStep (script_then bytes.now) o result o }
+    ensures read { IfOk result WasRead }
 {
     let source = decoded(alloc, bytes)?;
     match read_script(alloc, &source) {

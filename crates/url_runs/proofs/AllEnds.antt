@@ -16,14 +16,14 @@ use Rattle.poll_loop.specs.declared.looping.Stop.TheVariants as stop
 use Rattle.session_log.specs.Sessions.{Holds}
 use Rattle.report_text.specs.Report.{UrlEnd, seen_end}
 use Rattle.report_text.specs.declared.blocks.UrlEnd as code
-use Rattle.url_runs.specs.Runs.{Resolved}
+use Rattle.url_runs.specs.Runs.{ScriptRuns}
 use Rattle.url_runs.specs.Resolving.{ended, urls_talk}
 use Rattle.url_runs.specs.Ends.{HaveEnded, seen_ends}
 
 not_link : stop.Link ≡ stop.Memory → ⊥
 not_link e = cc
 
-module _ (asking : Asking) (script : Resolved) (entries : List Entry) (old new : Outside) where
+module _ (asking : Asking) (script : ScriptRuns) (entries : List Entry) (old new : Outside) where
   -- it went to its end, and what the sessions say is told, or memory ran out
   pub have_ended : (log : List Move) (ends : List UrlEnd) (result : Result (Vec code.UrlEnd Global) Stop)
       → Talked (urls_talk asking script entries) old whole log new

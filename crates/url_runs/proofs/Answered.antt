@@ -13,9 +13,9 @@ use Rattle.poll_log.proofs.Names.{true_false}
 use Rattle.url_runs.specs.Laws.{ToldAreAnswered}
 use Rattle.url_runs.specs.Reports.{is_fault, is_unanswered}
 use Rattle.url_runs.specs.Resolving.{all_ended, end_by, ended, url_job}
-use Rattle.url_runs.specs.Runs.{Resolved, outcome_of}
+use Rattle.url_runs.specs.Runs.{ScriptRuns, outcome_of}
 
-module _ (program : Resolved) (answers : AnswerMap) (t : Terms) (h : Turns) where
+module _ (program : ScriptRuns) (answers : AnswerMap) (t : Terms) (h : Turns) where
   none_unanswered : (entries : List Entry) → All (IsFinished t h) (map (url_job program) entries) → list_any (λ e. is_unanswered e.end) (map (ended program answers t h) entries) ≡ false
   none_unanswered [] all = refl
   none_unanswered (entry ∷ entries) all =

@@ -13,13 +13,12 @@ use Rattle.poll_log.proofs.Orders.{runs_restartable}
 use Rattle.session_log.specs.Asked.{asked_in, job_of}
 use Rattle.session_log.proofs.Asking.{asked_in-map}
 use Rattle.session_log.proofs.Orders.{in_order}
-use Rattle.url_runs.specs.Runs.{url_run}
 use Rattle.url_runs.specs.Laws.{RunsAreFew}
 use Rattle.pac_names.specs.declared.limits.TheConstants.{MOST_NAMES}
 
 pub few : RunsAreFew
 few program entry t h all p =
-    let run : RunTree RunEnd = url_run program entry in
+    let run : RunTree RunEnd = program entry in
     let by : IsRestartableBy MOST_NAMES (asked_in run) = runs_restartable MOST_NAMES (asked_in run) (in_order run) in
     let bound : runs_of t h (job_of run) ≤ by.law.depth (told t h) + 1 = runs_bound MOST_NAMES t h (job_of run) by.law in
     let grows : by.law.depth (told t h) ≤ by.law.depth (map.get all) = by.law.grows (map.get all) (told t h) p in

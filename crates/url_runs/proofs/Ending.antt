@@ -20,21 +20,21 @@ use Rattle.session_core.specs.declared.session.State.TheVariants.{Finished, Unan
 use Rattle.session_core.specs.Beginning.{run_jobs}
 use Rattle.session_core.specs.Resolved.{AllEnded, HasEnded}
 use Rattle.url_runs.specs.declared.url_run.UrlRun.{UrlRun}
-use Rattle.url_runs.specs.Runs.{GivesOutcome, Resolved, outcome_of, seen_for, seen_run, tree_of, url_run}
+use Rattle.url_runs.specs.Runs.{GivesOutcome, ScriptRuns, outcome_of, seen_for, seen_run, tree_of}
 use Rattle.url_runs.specs.Ends.{end_of, session_end}
 use Rattle.url_runs.specs.Resolving.{end_by, ended, url_job}
 
-abbrev first_or : Resolved × def.Entry → List (Resolved × def.Entry) → Resolved × def.Entry
+abbrev first_or : ScriptRuns × def.Entry → List (ScriptRuns × def.Entry) → ScriptRuns × def.Entry
 first_or other [] = other
 first_or other (run ∷ runs) = run
 
-abbrev behind : List (Resolved × def.Entry) → List (Resolved × def.Entry)
+abbrev behind : List (ScriptRuns × def.Entry) → List (ScriptRuns × def.Entry)
 behind [] = []
 behind (run ∷ runs) = runs
 
-module _ (script : Resolved) (t : Terms) (h : Turns) (all : AnswerMap) (holds : Holds all (told t h)) where
+module _ (script : ScriptRuns) (t : Terms) (h : Turns) (all : AnswerMap) (holds : Holds all (told t h)) where
   -- how it ended with a URL, by its first untold name
-  state_end : (entry : def.Entry) (state : State Outcome) → HasEnded GivesOutcome (url_run script entry) t h state
+  state_end : (entry : def.Entry) (state : State Outcome) → HasEnded GivesOutcome (script entry) t h state
       → end_of state ≡ end_by (url_job script entry (told t h)) (outcome_of script all entry)
   state_end entry (Finished out) e =
       ap done (sym (e.1 all holds)) ∙ sym (ap (λ (lacking : Option Name). end_by lacking (outcome_of script all entry)) e.0)
@@ -45,7 +45,7 @@ module _ (script : Resolved) (t : Terms) (h : Turns) (all : AnswerMap) (holds : 
   abbrev with_runs : End → ℕ → UrlEnd
   with_runs end runs = record { end = end; runs = runs }
 
-  one_end : (entry : def.Entry) (state : State Outcome) (runs : ℕ) → HasEnded GivesOutcome (url_run script entry) t h state
+  one_end : (entry : def.Entry) (state : State Outcome) (runs : ℕ) → HasEnded GivesOutcome (script entry) t h state
       → runs ≡ runs_of t h (url_job script entry) → with_runs (end_of state) runs ≡ ended script all t h entry
   one_end entry state runs e n =
       ap (λ (end : End). with_runs end runs) (state_end entry state e)
@@ -57,7 +57,7 @@ module _ (script : Resolved) (t : Terms) (h : Turns) (all : AnswerMap) (holds : 
   abbrev IsCounted : Session UrlRun Outcome → Type 0
   IsCounted s = s.runs ≡ runs_of t h (job_of (tree_of s.run))
 
-  abbrev seen_runs : List (Session UrlRun Outcome) → List (Resolved × def.Entry)
+  abbrev seen_runs : List (Session UrlRun Outcome) → List (ScriptRuns × def.Entry)
   seen_runs sessions = map seen_run (map (λ s. s.run) sessions)
 
   -- what is reported of the sessions, in order
@@ -70,8 +70,8 @@ module _ (script : Resolved) (t : Terms) (h : Turns) (all : AnswerMap) (holds : 
   ends_are (x ∷ entries) (s ∷ sessions) e p n =
       let here : seen_run s.run ≡ seen_for script x = ap (first_or (seen_run s.run)) e in
       let one = one_end (entry_of x) s.state s.runs
-      (subst (λ (run : Resolved × def.Entry). HasEnded GivesOutcome (url_run run.0 run.1) t h s.state) here (All-head HasEndedThen s sessions p))
-      (subst (λ (run : Resolved × def.Entry). s.runs ≡ runs_of t h (url_job run.0 run.1)) here (All-head IsCounted s sessions n)) in
+      (subst (λ (run : ScriptRuns × def.Entry). HasEnded GivesOutcome (run.0 run.1) t h s.state) here (All-head HasEndedThen s sessions p))
+      (subst (λ (run : ScriptRuns × def.Entry). s.runs ≡ runs_of t h (url_job run.0 run.1)) here (All-head IsCounted s sessions n)) in
       ap (λ (end : UrlEnd). end ∷ map session_end sessions) one
       ∙ ap (λ (ends : List UrlEnd). ended script all t h (entry_of x) ∷ ends)
       (ends_are entries sessions (ap behind e) (All-tail HasEndedThen s sessions p) (All-tail IsCounted s sessions n))
@@ -85,11 +85,11 @@ module _ (script : Resolved) (t : Terms) (h : Turns) (all : AnswerMap) (holds : 
       ends_are entries sessions same ends.ended ends.counted
 
 -- what is polled for are the jobs of the URLs
-pub jobs_are : (script : Resolved) (entries : List Entry) (runs : List UrlRun) → map seen_run runs ≡ map (seen_for script) entries
+pub jobs_are : (script : ScriptRuns) (entries : List Entry) (runs : List UrlRun) → map seen_run runs ≡ map (seen_for script) entries
     → run_jobs tree_of runs ≡ map (url_job script) (map entry_of entries)
 jobs_are script [] [] e = refl
 jobs_are script [] (run ∷ runs) e = cc
 jobs_are script (x ∷ entries) [] e = cc
 jobs_are script (x ∷ entries) (run ∷ runs) e =
-    ap (λ (job : Job). job ∷ run_jobs tree_of runs) (ap (λ (run : Resolved × def.Entry). url_job run.0 run.1) (ap (first_or (seen_run run)) e))
+    ap (λ (job : Job). job ∷ run_jobs tree_of runs) (ap (λ (run : ScriptRuns × def.Entry). url_job run.0 run.1) (ap (first_or (seen_run run)) e))
     ∙ ap (λ (jobs : List Job). url_job script (entry_of x) ∷ jobs) (jobs_are script entries runs (ap behind e))

@@ -12,7 +12,7 @@ use Rattle.js_evaluation.specs.Evaluation.{ending_of}
 use Rattle.js_interp.specs.declared.outcome.Outcome.{Outcome}
 use Rattle.js_interp.specs.Answers.{IsDone, seen_outcome}
 use Rattle.js_interp.specs.Endings.{seen_ending}
-use Rattle.url_runs.specs.Runs.{GivesOutcome, Resolved, outcome_of, url_run}
+use Rattle.url_runs.specs.Runs.{GivesOutcome, ScriptRuns, outcome_of}
 
 -- a map of all names completes itself
 itself : (answers : AnswerMap) → Completes answers (wholly answers)
@@ -36,10 +36,10 @@ gives run known outcome after done =
     ∙ ap (outcome_with (seen_ending outcome.ending)) done.alerts_are
 
 -- over a host that knows every name it is the outcome against its map
-pub outcome_is : (program : Resolved) (entry : def.Entry) (answers : AnswerMap) (outcome : Outcome) (after : Seen)
-    → IsDone (url_run program entry) (wholly answers) outcome after → outcome_of program answers entry ≡ seen_outcome outcome
+pub outcome_is : (program : ScriptRuns) (entry : def.Entry) (answers : AnswerMap) (outcome : Outcome) (after : Seen)
+    → IsDone (program entry) (wholly answers) outcome after → outcome_of program answers entry ≡ seen_outcome outcome
 outcome_is program entry answers outcome after done =
-    let run : RunTree RunEnd = url_run program entry in
+    let run : RunTree RunEnd = program entry in
     let whole = done.is_whole.1 answers (itself answers) in
     ap (λ (end : RunEnd). outcome_with (ending_of end) (kept_alerts (whole_run answers run).alerts)) whole.end_is
     ∙ ap (outcome_with (ending_of done.end)) whole.alerts_are

@@ -13,7 +13,7 @@ use Rattle.poll_loop.specs.declared.looping.Asking.{Asking}
 use Rattle.poll_loop.specs.declared.looping.Stop.{Stop}
 use Rattle.poll_loop.specs.declared.looping.Stop.TheVariants as stop
 use Rattle.session_log.specs.Sessions.{Holds}
-use Rattle.url_runs.specs.Runs.{Resolved}
+use Rattle.url_runs.specs.Runs.{ScriptRuns}
 use Rattle.url_runs.specs.Resolving.{ended, urls_talk}
 use Rattle.js_interp.specs.declared.outcome.Outcome.{Outcome}
 use Rattle.js_interp.specs.Answers.{seen_outcome}
@@ -36,7 +36,7 @@ session_end session = record { end = end_of session.state; runs = session.runs }
 
 -- The talk for all URLs went to its end, and it ended so with each of them by its log, against every map of all names that
 -- holds what is told; or the link failed; or memory ran out in the talk or behind it.
-abbrev pub HaveEnded : Asking → Resolved → List Entry → Outside → Result (List UrlEnd) Stop → Outside → Type 0
+abbrev pub HaveEnded : Asking → ScriptRuns → List Entry → Outside → Result (List UrlEnd) Stop → Outside → Type 0
 HaveEnded asking program entries old (Ok ends) new = (log : List Move) × Talked (urls_talk asking program entries) old whole log new
     × ((answers : AnswerMap) → Holds answers (told asking.terms (turns_of log)) → ends ≡ map (ended program answers asking.terms (turns_of log)) entries)
 HaveEnded asking program entries old (Err stop.Link) new = (log : List Move) × Talked (urls_talk asking program entries) old faulted log new

@@ -16,7 +16,7 @@ use Rattle.poll_loop.specs.declared.looping.Asking.{Asking}
 use Rattle.stub_poller.specs.Ready.{AreTerms}
 use Rattle.session_log.specs.Sessions.{Holds}
 use Rattle.session_core.specs.Resolved.{talk_of}
-use Rattle.url_runs.specs.Runs.{Resolved, url_run}
+use Rattle.url_runs.specs.Runs.{ScriptRuns}
 use Rattle.url_runs.specs.Reports.{reported}
 use Rattle.url_runs.specs.Resolving.{Completion, all_ended, url_job}
 
@@ -24,18 +24,17 @@ use Rattle.url_runs.specs.Resolving.{Completion, all_ended, url_job}
 -- that holds what is told.
 abbrev pub RunsAreFew : Type 0
 RunsAreFew =
-    (program : Resolved) (entry : Entry) (terms : Terms) (turns : Turns) (answers : AnswerMap) → Holds answers (told terms turns)
-    → runs_of terms turns (url_job program entry) ≤ length (asked_names answers (url_run program entry)) + 1
+    (script : ScriptRuns) (entry : Entry) (terms : Terms) (turns : Turns) (answers : AnswerMap) → Holds answers (told terms turns)
+    → runs_of terms turns (url_job script entry) ≤ length (asked_names answers (script entry)) + 1
 
 -- What is polled for is sound: what waits lacks lookup names alone, and obeys the extension law with at most 32 names.
-abbrev pub TasksAreSound : Type 0
-TasksAreSound =
-    (asking : Asking) (program : Resolved) (entries : List Entry) → AreTerms asking.terms
-    → IsSound (talk_of asking (map (url_job program) entries)).task
+abbrev pub TasksAreSound : ScriptRuns → Type 0
+TasksAreSound script =
+    (asking : Asking) (entries : List Entry) → AreTerms asking.terms → IsSound (talk_of asking (map (url_job script) entries)).task
 
 -- Where the log is polled and each name that was sent is told, no URL is unanswered.
 abbrev pub ToldAreAnswered : Type 0
 ToldAreAnswered =
-    (complete : Completion) (terms : Terms) (program : Resolved) (batch : List BatchEntry) (entries : List Entry) (log : List Move)
-    → IsPolled terms (map (url_job program) entries) (turns_of log) → IsAllTold terms (turns_of log)
-    → (reported batch (all_ended program complete terms (turns_of log) entries)).status ≡ status.Unanswered → ⊥
+    (complete : Completion) (terms : Terms) (script : ScriptRuns) (batch : List BatchEntry) (entries : List Entry) (log : List Move)
+    → IsPolled terms (map (url_job script) entries) (turns_of log) → IsAllTold terms (turns_of log)
+    → (reported batch (all_ended script complete terms (turns_of log) entries)).status ≡ status.Unanswered → ⊥

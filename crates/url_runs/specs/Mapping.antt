@@ -6,10 +6,10 @@ use Rattle.js_evaluation.specs.Evaluation.{Entry}
 use Rattle.poll_loop.specs.Task.{Talk}
 use Rattle.pac_plan.specs.Plan.{Plan, run, say}
 use Rattle.report_text.specs.Report.{UrlEnd, done}
-use Rattle.url_runs.specs.Runs.{Resolved, outcome_of}
+use Rattle.url_runs.specs.Runs.{ScriptRuns, outcome_of}
 use Rattle.url_runs.specs.Reports.{reported}
 
-abbrev pub mapped : Resolved → AnswerMap → Entry → UrlEnd
+abbrev pub mapped : ScriptRuns → AnswerMap → Entry → UrlEnd
 mapped program answers entry = record { end = done (outcome_of program answers entry); runs = 1 }
 
 -- a run for each of these, and then
@@ -18,5 +18,5 @@ run_each [] next = next
 run_each (entry ∷ entries) next = run (run_each entries next)
 
 -- of a batch, for whose URLs these runs are
-abbrev pub map_plan : Resolved → AnswerMap → List BatchEntry → List Entry → Plan Talk
+abbrev pub map_plan : ScriptRuns → AnswerMap → List BatchEntry → List Entry → Plan Talk
 map_plan program answers batch entries = run_each entries (say (reported batch (map (mapped program answers) entries)))

@@ -13,12 +13,13 @@ use Rattle.poll_log.specs.Laws.{first_lacking, lacking_or}
 use Rattle.poll_log.proofs.Names.{none_some}
 use Rattle.poll_loop.specs.Task as jobs
 use Rattle.session_log.specs.Asked.{asked_from, asked_in, job_of, reply_in}
-use Rattle.js_evaluation.specs.Evaluation.{Entry}
+use Rattle.js_tree.specs.Tree.{statements_of}
+use Rattle.js_scope.specs.Functions.{functions_of}
+use Rattle.js_interp.specs.Answers.{entry_of}
 use Rattle.js_law_evaluation.specs.Laws.{AsksLookupNames}
 use Rattle.js_law_evaluation.proofs.OfEvaluation.{runs-ask}
 use Rattle.url_runs.specs.declared.url_run.UrlRun.{UrlRun}
-use Rattle.url_runs.specs.Runs.{Resolved, seen_run, tree_of, url_run}
-use Rattle.url_runs.specs.Resolving.{url_job}
+use Rattle.url_runs.specs.Runs.{tree_of}
 
 abbrev IsName : Name → Type 0
 IsName n = IsTrue (is_lookup_name n)
@@ -54,11 +55,9 @@ first_named M (x ∷ names) n h e = go (M x) e (λ k. first_named M names n h.1 
     go (Some y) e rest = rest e
 
 -- a run that asks for lookup names alone lacks lookup names alone
-jobs_named : {End : Type 0} (run : RunTree End) → AsksLookupNames run → jobs.AsksLookupNames (job_of run)
+pub jobs_named : {End : Type 0} (run : RunTree End) → AsksLookupNames run → jobs.AsksLookupNames (job_of run)
 jobs_named run named M n e = first_named M (asked_in run M) n (all_named M run [] named tt) e
 
-pub url_named : (program : Resolved) (entry : Entry) → jobs.AsksLookupNames (url_job program entry)
-url_named program entry = jobs_named (url_run program entry) (runs-ask program.0 program.1 entry)
-
 pub named : (run : UrlRun) → jobs.AsksLookupNames (job_of (tree_of run))
-named run = url_named (seen_run run).0 (seen_run run).1
+named run = jobs_named (tree_of run)
+    (runs-ask (statements_of run.program.now.body) (functions_of run.program.now.functions) (entry_of run.entry))

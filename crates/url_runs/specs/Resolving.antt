@@ -14,7 +14,7 @@ use Rattle.report_text.specs.Report.{End, UrlEnd, done, unanswered}
 use Rattle.session_log.specs.Asked.{job_of}
 use Rattle.session_log.specs.Sessions.{Holds}
 use Rattle.session_core.specs.Resolved.{talk_of}
-use Rattle.url_runs.specs.Runs.{Resolved, outcome_of, url_run}
+use Rattle.url_runs.specs.Runs.{ScriptRuns, outcome_of}
 use Rattle.url_runs.specs.Reports.{reported}
 
 -- For each log a map of all names that agrees with the first accepted replies, and may hold anything for other names.
@@ -23,8 +23,8 @@ pub record Completion : Type 0 where
   pub agrees : (terms : Terms) (turns : Turns) → Holds (answers terms turns) (told terms turns)
 
 -- what waits for names where a script is run for a URL
-abbrev pub url_job : Resolved → Entry → Job
-url_job program entry = job_of (url_run program entry)
+abbrev pub url_job : ScriptRuns → Entry → Job
+url_job program entry = job_of (program entry)
 
 -- with the outcome where all names of the run are told, and else with its first untold name
 abbrev pub end_by : Option Name → Outcome → End
@@ -32,22 +32,22 @@ end_by None outcome = done outcome
 end_by (Some name) outcome = unanswered name
 
 -- how it ends with a URL by a log, and how many runs that took; the run is against a map of all names
-abbrev pub ended : Resolved → AnswerMap → Terms → Turns → Entry → UrlEnd
+abbrev pub ended : ScriptRuns → AnswerMap → Terms → Turns → Entry → UrlEnd
 ended program answers terms turns entry = record {
   end = end_by (url_job program entry (told terms turns)) (outcome_of program answers entry);
   runs = runs_of terms turns (url_job program entry);
 }
 
-abbrev pub all_ended : Resolved → Completion → Terms → Turns → List Entry → List UrlEnd
+abbrev pub all_ended : ScriptRuns → Completion → Terms → Turns → List Entry → List UrlEnd
 all_ended program complete terms turns entries =
     map (ended program (complete.answers terms turns) terms turns) entries
 
 -- what is polled for
-abbrev pub urls_talk : Asking → Resolved → List Entry → Talk
+abbrev pub urls_talk : Asking → ScriptRuns → List Entry → Talk
 urls_talk asking program entries = talk_of asking (map (url_job program) entries)
 
 -- polls for all of them, and reports by the log of the batch, for whose URLs these runs are
-abbrev pub resolve_plan : Completion → Asking → Resolved → List BatchEntry → List Entry → Plan Talk
+abbrev pub resolve_plan : Completion → Asking → ScriptRuns → List BatchEntry → List Entry → Plan Talk
 resolve_plan complete asking program batch entries =
     talk (urls_talk asking program entries)
     (λ log. reported batch (all_ended program complete asking.terms (turns_of log) entries))

@@ -1,4 +1,7 @@
 // Laws of what is reported.
+ghost use Rattle.js_evaluation.specs.Evaluation.{Entry};
+ghost use Rattle.js_law_evaluation.specs.Laws.{AsksLookupNames};
+ghost use Rattle.url_runs.specs.Runs.{ScriptRuns};
 ghost use Rattle.url_runs.specs.Resolving.{Completion};
 ghost use Rattle.url_runs.specs.Laws.{RunsAreFew, TasksAreSound, ToldAreAnswered};
 
@@ -12,9 +15,9 @@ pub fn completions_are_there()
     ensures { Completion }
 {}
 
-/// What is polled for is sound.
+/// What is polled for is sound, where runs ask for lookup names alone.
 pub fn tasks_are_sound()
-    ensures { TasksAreSound }
+    ensures { (script : ScriptRuns) → ((entry : Entry) → AsksLookupNames (script entry)) → TasksAreSound script }
 {}
 
 /// Where each name that was sent is told, no URL is unanswered.

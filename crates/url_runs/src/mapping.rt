@@ -7,7 +7,7 @@ ghost use Rattle.pac_plan.specs.OutputView.{made};
 ghost use Rattle.pac_ask.specs.Talks.{talks};
 ghost use Rattle.batch_text.specs.Batch.{entry_seen};
 ghost use Rattle.report_text.specs.Report.{seen_end};
-ghost use Rattle.url_runs.specs.Runs.{outcome_of, program_of};
+ghost use Rattle.url_runs.specs.Runs.{outcome_of, program_runs};
 ghost use Rattle.url_runs.specs.Mapping as plan;
 
 use crate::reports::reported;
@@ -33,7 +33,7 @@ pub fn map_urls<L: Ledger>(
     answers: &AnswerTable,
     runs: &mut Steps<L>,
 ) -> Result<Output, Memory>
-    ensures { (o : Outside) → Follows talks (plan.map_plan (program_of program.now) answers.now (map entry_seen batch.now) (map entry_of entries.items))
+    ensures { (o : Outside) → Follows talks (plan.map_plan (program_runs program.now) answers.now (map entry_seen batch.now) (map entry_of entries.items))
         (record o { runs = runs.old }) (record o { runs = runs.new }) (made result) }
 {
     let ends = run_each(alloc, program, entries, answers, runs)?;
@@ -48,7 +48,7 @@ fn run_each<L: Ledger>(
     answers: &AnswerTable,
     runs: &mut Steps<L>,
 ) -> Result<Vec<UrlEnd>, Memory>
-    ensures ends { IfOk result (λ ends. map seen_end ends.items ≡ map (plan.mapped (program_of program.now) answers.now) (map entry_of entries.items)) }
+    ensures ends { IfOk result (λ ends. map seen_end ends.items ≡ map (plan.mapped (program_runs program.now) answers.now) (map entry_of entries.items)) }
     ensures ran { OnOk result (runs.new ≡ runs.old + length entries.items) }
     ensures memory { OnErr result ((done : ℕ) × (done ≤ length entries.items) × (runs.new ≡ runs.old + done)) }
 {
@@ -71,7 +71,7 @@ fn run_against<L: Ledger>(
     answers: &AnswerTable,
     runs: &mut Steps<L>,
 ) -> Result<Outcome, Memory>
-    ensures outcome { IfOk result (λ outcome. outcome_of (program_of program.now) answers.now (entry_of entry.entry.now) ≡ seen_outcome outcome) }
+    ensures outcome { IfOk result (λ outcome. outcome_of (program_runs program.now) answers.now (entry_of entry.entry.now) ≡ seen_outcome outcome) }
     ensures ran { runs.new ≡ runs.old + 1 }
 {
     let mut host = MapHost::new(alloc, answers);

@@ -8,7 +8,7 @@ ghost use Rattle.pac_plan.specs.OutputView.{made};
 ghost use Rattle.pac_ask.specs.Talks.{talks};
 ghost use Rattle.batch_text.specs.Batch.{entry_seen};
 ghost use Rattle.report_text.specs.Report.{seen, seen_end};
-ghost use Rattle.url_runs.specs.Runs.{program_of, seen_for, seen_run};
+ghost use Rattle.url_runs.specs.Runs.{program_runs, seen_for, seen_run};
 ghost use Rattle.url_runs.specs.Ends.{HaveEnded, end_of, seen_ends, session_end};
 ghost use Rattle.url_runs.specs.Resolving as plan;
 ghost use Rattle.url_runs.specs.Resolving.{Completion};
@@ -41,7 +41,7 @@ pub fn resolve_urls<N: Link, D: Dice, L: Ledger>(
     runs: &mut Steps<L>,
 ) -> Result<Output, Memory>
     requires { AreTerms asking.terms }
-    ensures { (complete : Completion) (o : Outside) → Follows talks (plan.resolve_plan complete asking (program_of program.now) (map entry_seen batch.now) (map entry_of entries.items))
+    ensures { (complete : Completion) (o : Outside) → Follows talks (plan.resolve_plan complete asking (program_runs program.now) (map entry_seen batch.now) (map entry_of entries.items))
         (record o { link = N.state link.old; dice = D.told dice.old; runs = runs.old })
         (record o { link = N.state link.new; dice = D.told dice.new; runs = runs.new }) (made result) }
 {
@@ -65,7 +65,7 @@ pub fn end_urls<N: Link, D: Dice, L: Ledger>(
     runs: &mut Steps<L>,
 ) -> Result<Vec<UrlEnd>, Stop>
     requires { AreTerms asking.terms }
-    ensures { (o : Outside) → HaveEnded asking (program_of program.now) (map entry_of entries.items)
+    ensures { (o : Outside) → HaveEnded asking (program_runs program.now) (map entry_of entries.items)
         (record o { link = N.state link.old; dice = D.told dice.old; runs = runs.old }) (seen_ends result)
         (record o { link = N.state link.new; dice = D.told dice.new; runs = runs.new }) }
 {
@@ -84,7 +84,7 @@ fn runs_for<'p>(
     program: &'p Program,
     entries: Vec<Entry>,
 ) -> Result<Vec<UrlRun<'p>>, Memory>
-    ensures { IfOk result (λ all. map seen_run all.items ≡ map (seen_for (program_of program.now)) entries.items) }
+    ensures { IfOk result (λ all. map seen_run all.items ≡ map (seen_for (program_runs program.now)) entries.items) }
 {
     let mut all = Vec::new(alloc);
     for entry in entries {

@@ -1,11 +1,12 @@
 use Rattle.std.proofs.Common.{ap}
-use Rattle.js_binding.specs.Resolved.{resolved}
-use Rattle.url_runs.specs.Runs.{program_of}
+use Rattle.js_evaluation.specs.Evaluation.{run_by_names}
+use Rattle.url_runs.specs.Runs.{program_runs}
 use Rattle.memory_talk.proofs.Addresses.{sites_have}
 use Rattle.pac_generate.specs.declared.generating.Generated.{Generated}
 use Rattle.generated_runs.proofs.Summed.{no_output, none_made}
 use Rattle.pac_command.specs.Generate.{generated_batch, usual_asking, usual_given}
 use Rattle.pac_command.specs.Urls.{entries_for}
+use Rattle.pac_command.proofs.Stepping.{runs_are}
 use Rattle.pac_command.proofs.Generated.{few_entries, summed_is, summing}
 use Rattle.pac_command.proofs.generate.sum_script.Goals as goal
 
@@ -27,10 +28,10 @@ sum_urls-requires-clause-few g c =
 pub returns-in_err-output : goal.returns-in_err-output
 returns-in_err-output g c = λ o.
     rw (none_made _ c.from_residual-in_err-output.result c.from_residual-in_err-output.ensures.1)
-    (summed_is c.args.from _ _ _ usual_asking (program_of c.in_ok-program.program) (resolved c.args.script) _ (entries_for usual_given (generated_batch c.args.from.seed c.args.from.sites)) _ _ _
-    (ap (λ (g : Generated). g.map) c.requires.input) c.usual_asking.ensures.same c.in_ok-program.ensures (rw (c.requires.input, c.usual_given.ensures) at c.in_ok-entries.ensures) (c.in_err-output.ensures o))
+    (summed_is c.args.from _ _ _ usual_asking (program_runs c.in_ok-program.program) (run_by_names c.args.script) _ (entries_for usual_given (generated_batch c.args.from.seed c.args.from.sites)) _ _ _
+    (ap (λ (g : Generated). g.map) c.requires.input) c.usual_asking.ensures.same (runs_are c.args.script c.in_ok-program.program c.requires.read c.in_ok-program.ensures) (rw (c.requires.input, c.usual_given.ensures) at c.in_ok-entries.ensures) (c.in_err-output.ensures o))
 
 pub returns : goal.returns
 returns g c = λ o.
-    summed_is c.args.from _ _ _ usual_asking (program_of c.in_ok-program.program) (resolved c.args.script) _ (entries_for usual_given (generated_batch c.args.from.seed c.args.from.sites)) _ _ _
-    (ap (λ (g : Generated). g.map) c.requires.input) c.usual_asking.ensures.same c.in_ok-program.ensures (rw (c.requires.input, c.usual_given.ensures) at c.in_ok-entries.ensures) (c.in_ok-output.ensures o)
+    summed_is c.args.from _ _ _ usual_asking (program_runs c.in_ok-program.program) (run_by_names c.args.script) _ (entries_for usual_given (generated_batch c.args.from.seed c.args.from.sites)) _ _ _
+    (ap (λ (g : Generated). g.map) c.requires.input) c.usual_asking.ensures.same (runs_are c.args.script c.in_ok-program.program c.requires.read c.in_ok-program.ensures) (rw (c.requires.input, c.usual_given.ensures) at c.in_ok-entries.ensures) (c.in_ok-output.ensures o)

@@ -6,7 +6,7 @@ use Rattle.poll_log.specs.Turns.{turns_of}
 use Rattle.poll_loop.specs.Talks.{Talked}
 use Rattle.poll_loop.proofs.Kept.{not_begun}
 use Rattle.session_core.specs.Resolved.{talk_of}
-use Rattle.url_runs.specs.Runs.{Resolved, program_of}
+use Rattle.url_runs.specs.Runs.{ScriptRuns, program_runs}
 use Rattle.url_runs.proofs.AllEnds.{have_ended}
 use Rattle.url_runs.proofs.Ending.{jobs_are, urls_end}
 use Rattle.url_runs.proofs.resolving.end_urls.Goals as goal
@@ -16,7 +16,7 @@ returns-in_default g c = λ o. (unfinished, [], not_begun _ _)
 
 pub returns-in-Ok-run_all : goal.returns-in-Ok-run_all
 returns-in-Ok-run_all g c = λ o.
-    let script : Resolved = program_of c.args.program.now in
+    let script : ScriptRuns = program_runs c.args.program.now in
     let old : Outside = record o { link = g.N.Link.state c.args.link.now; dice = g.D.Dice.told c.args.dice.now; runs = c.args.runs.now } in
     let new : Outside = record o { link = g.N.Link.state c.run_all.new.link; dice = g.D.Dice.told c.run_all.new.dice; runs = c.run_all.new.runs } in
     let ended = c.in-Ok-run_all.ensures.ok old refl refl refl in
@@ -31,7 +31,7 @@ returns-in-Err-Link g c = λ o.
     let new : Outside = record o { link = g.N.Link.state c.run_all.new.link; dice = g.D.Dice.told c.run_all.new.dice; runs = c.run_all.new.runs } in
     let ended = c.in-Err-Link.ensures.fault (cc) old refl refl refl in (
       ended.0,
-      subst (λ (jobs : List Job). Talked (talk_of c.args.asking jobs) old faulted ended.0 new) (jobs_are (program_of c.args.program.now) c.args.entries.items c.in-Ok.all.items c.in-Ok.ensures) ended.1,
+      subst (λ (jobs : List Job). Talked (talk_of c.args.asking jobs) old faulted ended.0 new) (jobs_are (program_runs c.args.program.now) c.args.entries.items c.in-Ok.all.items c.in-Ok.ensures) ended.1,
     )
 
 pub returns-in-Err-Memory : goal.returns-in-Err-Memory
@@ -41,5 +41,5 @@ returns-in-Err-Memory g c = λ o.
     let ended = c.in-Err-Memory.ensures.memory (cc) old refl refl refl in (
       unfinished,
       ended.0,
-      subst (λ (jobs : List Job). Talked (talk_of c.args.asking jobs) old unfinished ended.0 new) (jobs_are (program_of c.args.program.now) c.args.entries.items c.in-Ok.all.items c.in-Ok.ensures) ended.1,
+      subst (λ (jobs : List Job). Talked (talk_of c.args.asking jobs) old unfinished ended.0 new) (jobs_are (program_runs c.args.program.now) c.args.entries.items c.in-Ok.all.items c.in-Ok.ensures) ended.1,
     )

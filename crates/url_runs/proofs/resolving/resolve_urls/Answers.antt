@@ -8,7 +8,7 @@ use Rattle.pac_plan.specs.OutputView.{made}
 use Rattle.pac_plan.proofs.GivesUp.{says_nothing}
 use Rattle.poll_log.specs.Turns.{turns_of}
 use Rattle.report_text.specs.Report.{UrlEnd}
-use Rattle.url_runs.specs.Runs.{program_of}
+use Rattle.url_runs.specs.Runs.{program_runs}
 use Rattle.url_runs.specs.Reports.{reported}
 use Rattle.url_runs.proofs.AllEnds.{by_fault, for_memory}
 use Rattle.url_runs.proofs.resolving.resolve_urls.Goals as goal
@@ -29,7 +29,7 @@ returns-in-Err-Link g c = λ complete o.
     let entries : List Entry = map entry_of c.args.entries.items in
     let old : Outside = record o { link = g.N.Link.state c.args.link.now; dice = g.D.Dice.told c.args.dice.now; runs = c.args.runs.now } in
     let new : Outside = record o { link = g.N.Link.state c.end_urls.new.link; dice = g.D.Dice.told c.end_urls.new.dice; runs = c.end_urls.new.runs } in
-    let ended = by_fault c.args.asking (program_of c.args.program.now) entries old new c.in-Err-Link.field-0 c.in-Err-Link.field-0-is (c.in-Err-Link.ensures o) in
+    let ended = by_fault c.args.asking (program_runs c.args.program.now) entries old new c.in-Err-Link.field-0 c.in-Err-Link.field-0-is (c.in-Err-Link.ensures o) in
     (faulted, ended.0, ended.1, c.line.ensures)
 
 pub returns-in-Err-Memory : goal.returns-in-Err-Memory
@@ -37,5 +37,5 @@ returns-in-Err-Memory g c = λ complete o.
     let entries : List Entry = map entry_of c.args.entries.items in
     let old : Outside = record o { link = g.N.Link.state c.args.link.now; dice = g.D.Dice.told c.args.dice.now; runs = c.args.runs.now } in
     let new : Outside = record o { link = g.N.Link.state c.end_urls.new.link; dice = g.D.Dice.told c.end_urls.new.dice; runs = c.end_urls.new.runs } in
-    let ended = for_memory c.args.asking (program_of c.args.program.now) entries old new c.in-Err-Memory.field-0 c.in-Err-Memory.field-0-is (c.in-Err-Memory.ensures o) in
+    let ended = for_memory c.args.asking (program_runs c.args.program.now) entries old new c.in-Err-Memory.field-0 c.in-Err-Memory.field-0-is (c.in-Err-Memory.ensures o) in
     (ended.0, ended.1, ended.2, says_nothing ended.0 _)
