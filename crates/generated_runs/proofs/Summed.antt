@@ -13,6 +13,7 @@ use Rattle.pac_plan.specs.declared.output.Output.{Output}
 use Rattle.pac_plan.proofs.GivesUp.{gives_up}
 use Rattle.poll_log.specs.Turns.{turns_of}
 use Rattle.poll_log.specs.Questions.{firsts}
+use Rattle.poll_loop.specs.Task.{Talk}
 use Rattle.poll_loop.specs.Talks as loop
 use Rattle.poll_loop.specs.declared.looping.Asking.{Asking}
 use Rattle.poll_loop.specs.declared.looping.Stop.{Stop}
@@ -47,42 +48,56 @@ pub no_output : {E : Type 0} (P : E → Type 0) (plan : plans.Plan MemoryTalk) (
 no_output P plan o (Ok output) h = absurd h
 no_output P plan o (Err e) h = gives_up answering plan o
 
--- the outside of the link in memory before the talk and behind it, beside the one that the command has
-pub record IsBeside (o inner inner' : Outside) (link : MapLinkState) (n : ℕ) : Type 0 where
-  pub fresh : inner.link ≡ link_of new_map_link
-  pub left : inner'.link ≡ link_of link
-  pub none : inner.dice ≡ Some (counted 0)
-  pub drew : inner'.dice ≡ Some (counted n)
-  pub runs : o.runs ≡ inner.runs
+abbrev with_runs : Outside → ℕ → Outside
+with_runs o runs = record o { runs = runs }
 
-module _ (answers : AnswerMap) (asking : Asking) (program : ScriptRuns) (entries : List Entry) (o inner inner' : Outside) (link : MapLinkState) (n : ℕ)
-    (beside : IsBeside o inner inner' link n) (answered : IsAnswered answers (turns_of link.log)) where
-  abbrev after : Outside
-  after = record o { runs = inner'.runs }
+-- what the talk has for an outside, beside that of the command: a link and dice in memory
+abbrev beside : Outside → MapLinkState → ℕ → ℕ → Outside
+beside o link n runs = record o { link = link_of link; dice = Some (counted n); runs = runs }
+
+-- A talk that begins over a fresh link and dice that gave no number, and leaves these.
+module _ (answers : AnswerMap) (asking : Asking) (program : ScriptRuns) (entries : List Entry) (o : Outside) (fresh link : MapLinkState) (none n before after : ℕ)
+    (is_fresh : fresh ≡ new_map_link) (is_none : none ≡ 0) (answered : IsAnswered answers (turns_of link.log)) where
+  abbrev talk : Talk
+  talk = urls_talk asking program entries
+
+  abbrev inner : Outside
+  inner = beside o fresh none before
+
+  abbrev inner' : Outside
+  inner' = beside o link n after
+
+  abbrev plan : Seed → plans.Plan MemoryTalk
+  plan from = sum_plan from answers asking program entries
+
+  began : inner.link ≡ link_of new_map_link
+  began = ap link_of is_fresh
+
+  undrawn : inner.dice ≡ Some (counted 0)
+  undrawn = ap (λ (count : ℕ). Some (counted count)) is_none
 
   -- memory ran out in the talk or behind it
-  pub ends_early : (from : Seed) (e : Stop) → HaveEnded asking program entries inner (Err e) inner' → Follows answering (sum_plan from answers asking program entries) o after None
+  pub ends_early : (from : Seed) (e : Stop) → HaveEnded asking program entries inner (Err e) inner' → Follows answering (plan from) (with_runs o before) (with_runs o after) None
   ends_early from e h = go e h
     where
-      early : (end : End) (log : List Move) → loop.Talked (urls_talk asking program entries) inner end log inner' → Follows answering (sum_plan from answers asking program entries) o after None
-      early end log t =
-          (unfinished, log, answered_early (urls_talk asking program entries) answers inner inner' o end log link t beside.fresh beside.left answered beside.runs, refl)
+      early : (end : End) (log : List Move) → loop.Talked talk inner end log inner' → Follows answering (plan from) (with_runs o before) (with_runs o after) None
+      early end log t = (unfinished, log, answered_early talk answers inner inner' (with_runs o before) end log link t began refl answered refl, refl)
 
-      go : (e : Stop) → HaveEnded asking program entries inner (Err e) inner' → Follows answering (sum_plan from answers asking program entries) o after None
+      go : (e : Stop) → HaveEnded asking program entries inner (Err e) inner' → Follows answering (plan from) (with_runs o before) (with_runs o after) None
       go stop.Link h = early plans.faulted h.0 h.1
       go stop.Memory h = early h.0 h.1 h.2
 
   module _ (small : AreAddresses answers) (fits : length link.log ≤ MOST_MOVES) (ends : List UrlEnd) (all : HaveEnded asking program entries inner (Ok ends) inner') where
     talk_log : link.log ≡ all.0
-    talk_log = same_log (urls_talk asking program entries) inner inner' whole all.0 link all.1 beside.fresh beside.left
+    talk_log = same_log talk inner inner' whole all.0 link all.1 began refl
 
     low : n < last_count
     low =
-        below_last all.0 MOST_MOVES n inner.dice inner'.dice beside.none beside.drew all.1.ends.drew
+        below_last all.0 MOST_MOVES n inner.dice inner'.dice undrawn refl all.1.ends.drew
         (subst (λ (log : List Move). length log ≤ MOST_MOVES) talk_log fits) (omega arith)
 
     names : n ≡ length (firsts (turns_of all.0))
-    names = names_counted (urls_talk asking program entries) inner inner' all.0 n all.1 beside.none beside.drew low
+    names = names_counted talk inner inner' all.0 n all.1 undrawn refl low
 
     ends_are : ends ≡ map (ended program answers asking.terms (turns_of all.0)) entries
     ends_are =
@@ -90,11 +105,11 @@ module _ (answers : AnswerMap) (asking : Asking) (program : ScriptRuns) (entries
         program entries ends all.2
 
     -- nobody waits any more, and what is said is the sum
-    pub ends_whole : (from : Seed) (made : Option plans.Output) → IsUnlessMemory (said (summary from n ends)) made → Follows answering (sum_plan from answers asking program entries) o after made
+    pub ends_whole : (from : Seed) (made : Option plans.Output) → IsUnlessMemory (said (summary from n ends)) made → Follows answering (plan from) (with_runs o before) (with_runs o after) made
     ends_whole from made says = (
       whole,
       all.0,
-      answered_whole (urls_talk asking program entries) answers inner inner' o all.0 link n all.1 beside.fresh beside.left answered beside.none beside.drew low beside.runs,
+      answered_whole talk answers inner inner' (with_runs o before) all.0 link n all.1 began refl answered undrawn refl low refl,
       subst (λ (output : plans.Output). IsUnlessMemory output made)
           (ap (λ (count : ℕ). said (summary from count ends)) names ∙ ap (λ (es : List UrlEnd). said (summary from (length (firsts (turns_of all.0))) es)) ends_are) says,
     )

@@ -23,7 +23,6 @@ use poll_loop::Asking;
 use proxy_list::{ProxyKind, parse_list};
 use report_text::{End, UrlEnd};
 use std::alloc::Global;
-use std::marker::Brand;
 use std::sync::ledger::Ledger;
 use step_counter::Steps;
 use url_runs::end_urls;
@@ -44,26 +43,9 @@ pub struct Network<'a> {
 }
 
 /// Runs a script for all generated URLs at once over a network in memory, and sums up when each URL has ended. The
-/// entries are what the runs are for. Memory comes for want of it, or of room in the link.
-pub fn sum_urls<L: Ledger>(
-    alloc: Global,
-    from: Seed,
-    program: &Program,
-    entries: Vec<Entry>,
-    network: Network<'_>,
-    runs: &mut Steps<L>,
-) -> Result<Output, Memory>
-    requires terms { AreTerms network.asking.terms }
-    requires addresses { AreAddresses network.answers.now }
-    requires few { length entries.items ≤ MOST_URLS }
-    ensures { (o : Outside) → Follows answering (plan.sum_plan from network.entry.answers.now network.entry.asking (program_runs program.now) (map entry_of entries.items))
-        (record o { runs = runs.old }) (record o { runs = runs.new }) (made result) }
-{
-    summed::<Brand, L>(alloc, from, program, entries, network, runs)
-}
-
-// The same, where the type knows the answers.
-fn summed<K: KnownAnswers, L: Ledger>(
+/// entries are what the runs are for, and the type `K` knows the answers. Memory comes for want of it, or of room in the
+/// link.
+pub fn sum_urls<K: KnownAnswers, L: Ledger>(
     alloc: Global,
     from: Seed,
     program: &Program,
@@ -78,10 +60,17 @@ fn summed<K: KnownAnswers, L: Ledger>(
     ensures { (o : Outside) → Follows answering (plan.sum_plan from network.entry.answers.now network.entry.asking (program_runs program.now) (map entry_of entries.items))
         (record o { runs = runs.old }) (record o { runs = runs.new }) (made result) }
 {
-    let asking = network.asking;
     let mut link = MapLink::<K>::new(alloc, network.answers)?;
     let mut dice = CountingDice::new();
-    let ended = end_urls(alloc, program, entries, asking, &mut link, &mut dice, runs);
+    let ended = end_urls(
+        alloc,
+        program,
+        entries,
+        network.asking,
+        &mut link,
+        &mut dice,
+        runs,
+    );
     let _log = link.log();
     match ended {
         Ok(ends) => sum_up(alloc, from, dice.count(), &ends),

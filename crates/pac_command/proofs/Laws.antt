@@ -21,7 +21,7 @@ script_is_read = (_, refl)
 pub laws : CommandsKeepLaws
 laws = record {
   few_runs = few;
-  urls_are_sound = urls.sound;
+  urls_are_sound = λ script. urls.sound (run_by_names script) (λ entry. asks-by-names script entry);
   name_is_sound = λ asking n terms named. name_begins.sound asking.terms n terms named;
   unfinished_is_cut = memory_cut;
   urls_are_answered = urls_told.answered;

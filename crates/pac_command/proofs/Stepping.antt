@@ -1,9 +1,12 @@
 -- Steps of commands, one after another.
-use Rattle.std.proofs.Common.{◌≡◌, List, Option, Result, Ok, Err, sym, subst, ap}
+use Rattle.std.proofs.Common.{◌≡◌, ◌∙◌, List, Option, Result, Ok, Err, sym, subst, ap}
 use Rattle.std.specs.Result.{IsErrAnd}
 use Rattle.batch_text.specs.declared.batch.BatchLine.{BatchLine}
 use Rattle.batch_text.specs.Batch.{BatchEntry}
-use Rattle.js_evaluation.specs.Evaluation.{Entry}
+use Rattle.js_tree.specs.Tree.{FunctionTree, StatementTree, Statements}
+use Rattle.js_binding.specs.Resolved.{resolved}
+use Rattle.js_evaluation.specs.Evaluation.{Entry, run_by_names, run_tree}
+use Rattle.js_law_names.proofs.ReadRuns.{reads_by_names}
 use Rattle.js_scope.specs.declared.program.Program.{Program}
 use Rattle.js_scope.specs.Gives.{IsProgramOf}
 use Rattle.pac_plan.specs.Plan as plans
@@ -15,6 +18,7 @@ use Rattle.url_runs.specs.Runs.{ScriptRuns, program_runs}
 use Rattle.pac_command.specs.declared.early.Early.{Early}
 use Rattle.pac_command.specs.declared.early.Early.TheVariants as early
 use Rattle.pac_command.specs.Plans.{CommandPlan, Follows}
+use Rattle.pac_command.specs.Scripts.{WasRead}
 use Rattle.pac_command.specs.Steps.{IsStep, said, said_by}
 use Rattle.pac_command.specs.Urls.{seen_batch}
 

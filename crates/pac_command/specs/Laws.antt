@@ -16,7 +16,7 @@ pub record CommandsKeepLaws : Type 0 where
   -- no URL costs more runs than the distinct names of its whole run, and one
   pub few_runs : RunsAreFew
   -- what is polled for is sound, so where memory ran out the log is cut short
-  pub urls_are_sound : TasksAreSound
+  pub urls_are_sound : (script : List StatementTree) → TasksAreSound (run_by_names script)
   pub name_is_sound : AsksAreSound
   pub unfinished_is_cut : UnfinishedIsCut
   -- where each name that was sent is told, nothing is unanswered

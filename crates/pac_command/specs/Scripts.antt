@@ -1,5 +1,5 @@
 -- How a command reads a script, and what it says of one that isn't read.
-use Rattle.std.specs.Prelude.{ℕ, List, ◌++◌, codes}
+use Rattle.std.specs.Prelude.{◌≡◌, ℕ, List, Ok, ◌++◌, codes}
 use Rattle.std.specs.Fmt.{decimal}
 use Rattle.utf16_text.specs.Decode.{decoded_units}
 use Rattle.js_tree.specs.Tree.{StatementTree}
@@ -33,6 +33,10 @@ refused_script refusal = refused (codes "script " ++ (place_text refusal.1 ++ co
 -- goes on with the script in a file of these bytes, or says its first refusal
 abbrev pub script_then : List ℕ → (List StatementTree → CommandPlan) → CommandPlan
 script_then bytes next = if_read (script_of_text (decoded_units bytes)) (λ refusal. say (refused_script refusal)) next
+
+-- the script is one that was read
+abbrev pub WasRead : List StatementTree → Type 0
+WasRead script = (us : List ℕ) × (script_of_text us ≡ Ok script)
 
 -- reads the script
 abbrev pub script_from : List ℕ → (List StatementTree → CommandPlan) → CommandPlan

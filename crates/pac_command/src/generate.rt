@@ -29,6 +29,7 @@ use pac_words::{Generating, LOCAL, USUAL_FUEL, USUAL_PORT, USUAL_TRIES, USUAL_WA
 use poll_log::Terms;
 use poll_loop::Asking;
 use std::alloc::Global;
+use std::marker::Brand;
 use std::mem;
 use std::sync::ledger::Ledger;
 use step_counter::Steps;
@@ -75,7 +76,7 @@ fn sum_script<L: Ledger>(
         answers: &input.map,
         asking: usual_asking(),
     };
-    let output = sum_urls(alloc, from, &program, entries, network, runs)?;
+    let output = sum_urls::<Brand, L>(alloc, from, &program, entries, network, runs)?;
     // The process ends with its command, so the tree of a script isn't taken apart node by node.
     mem::forget(program);
     Ok(output)
