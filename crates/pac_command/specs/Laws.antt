@@ -2,6 +2,7 @@
 use Rattle.std.specs.Prelude.{◌≡◌, List, Ok}
 use Rattle.js_tree.specs.Tree.{StatementTree}
 use Rattle.js_grammar.specs.Statements.{script_of_text}
+use Rattle.js_evaluation.specs.Evaluation.{run_by_names}
 use Rattle.memory_talk.specs.Laws.{OneLog}
 use Rattle.pac_ask.specs.Laws.{AsksAreSound, ToldIsAnswered}
 use Rattle.pac_generate.specs.Generated as generated
