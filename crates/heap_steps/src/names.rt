@@ -2,7 +2,7 @@
 ghost use Rattle.std.specs.Prelude.{◌≡◌};
 ghost use Rattle.heap_values.specs.declared.value.Value.{Value};
 ghost use Rattle.object_heap.specs.Heap.{parent_in, scope_at};
-ghost use Rattle.js_evaluation.specs.Objects as spec;
+ghost use Rattle.js_evaluation.specs.BySlots as spec;
 ghost use Rattle.heap_steps.specs.Works.{Works, global_read, unknown};
 
 use crate::Halt;

@@ -86,15 +86,15 @@ module _ (scoping : Scoping) (functions : List FunctionTree) (go : Within) where
 
   -- ---- loops (12.6)
 
-  abbrev pub while_turns : ℕ → Context → Place → ExpressionTree → StatementTree → Does Value
-  while_turns zero cx p c body = fault code.FuelSpent p
-  while_turns (suc n) cx p c body =
-      visit go cx c >>= (λ v. if truth_of v then turning value.Undefined is_here (execute go cx body) (while_turns n cx p c body) else nothing)
+  abbrev pub while_turns : Context → ℕ → Place → ExpressionTree → StatementTree → Does Value
+  while_turns cx zero p c body = fault code.FuelSpent p
+  while_turns cx (suc n) p c body =
+      visit go cx c >>= (λ v. if truth_of v then turning value.Undefined is_here (execute go cx body) (while_turns cx n p c body) else nothing)
 
-  abbrev pub do_turns : ℕ → Context → Place → StatementTree → ExpressionTree → Does Value
-  do_turns zero cx p body c = fault code.FuelSpent p
-  do_turns (suc n) cx p body c =
-      turning value.Undefined is_here (execute go cx body) (visit go cx c >>= (λ v. if truth_of v then do_turns n cx p body c else nothing))
+  abbrev pub do_turns : Context → ℕ → Place → StatementTree → ExpressionTree → Does Value
+  do_turns cx zero p body c = fault code.FuelSpent p
+  do_turns cx (suc n) p body c =
+      turning value.Undefined is_here (execute go cx body) (visit go cx c >>= (λ v. if truth_of v then do_turns cx n p body c else nothing))
 
   abbrev pub started : Context → StartTree → Does Value
   started cx no_start = nothing
@@ -110,13 +110,13 @@ module _ (scoping : Scoping) (functions : List FunctionTree) (go : Within) where
   evaluated_if cx absent = nothing
   evaluated_if cx (present e) = visit go cx e
 
-  abbrev pub for_turns : ℕ → Context → Place → OptionalExpression → OptionalExpression → StatementTree → Does Value
-  for_turns zero cx p c step body = fault code.FuelSpent p
-  for_turns (suc n) cx p c step body =
-      holds cx c >>= (λ v. if truth_of v then turning value.Undefined is_here (execute go cx body) (evaluated_if cx step >> for_turns n cx p c step body) else nothing)
+  abbrev pub for_turns : Context → ℕ → Place → OptionalExpression → OptionalExpression → StatementTree → Does Value
+  for_turns cx zero p c step body = fault code.FuelSpent p
+  for_turns cx (suc n) p c step body =
+      holds cx c >>= (λ v. if truth_of v then turning value.Undefined is_here (execute go cx body) (evaluated_if cx step >> for_turns cx n p c step body) else nothing)
 
   abbrev pub for_loop : Context → Place → StartTree → OptionalExpression → OptionalExpression → StatementTree → Does Value
-  for_loop cx p start c step body = started cx start >> as_fuel_allows (λ n. for_turns n cx p c step body)
+  for_loop cx p start c step body = started cx start >> as_fuel_allows (λ n. for_turns cx n p c step body)
 
   -- ---- `for`-`in` (12.6.4)
 
@@ -199,8 +199,8 @@ module _ (scoping : Scoping) (functions : List FunctionTree) (go : Within) where
   statement_node cx (Debugger p) = nothing
   statement_node cx (Var p ds) = variables_from cx p ds
   statement_node cx (If p bs last) = branches_from cx bs last
-  statement_node cx (DoWhile p s c) = as_fuel_allows (λ n. do_turns n cx p s c)
-  statement_node cx (While p c s) = as_fuel_allows (λ n. while_turns n cx p c s)
+  statement_node cx (DoWhile p s c) = as_fuel_allows (λ n. do_turns cx n p s c)
+  statement_node cx (While p c s) = as_fuel_allows (λ n. while_turns cx n p c s)
   statement_node cx (For p start c step s) = for_loop cx p start c step s
   statement_node cx (ForIn p target e s) = for_in_loop cx p target e s
   statement_node cx (Continue p) = abrupt (ending.Continued tt)

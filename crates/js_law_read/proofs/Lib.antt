@@ -1,1 +1,1 @@
-mod Anonymous
+pub mod Anonymous
