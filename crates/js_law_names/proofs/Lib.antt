@@ -15,5 +15,6 @@ mod OfExpressions
 mod OfStatements
 mod OfVariables
 mod OfEntries
-pub mod OfRuns
+mod OfRuns
+pub mod ReadRuns
 pub mod OfLookUps

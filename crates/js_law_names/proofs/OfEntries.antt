@@ -21,7 +21,7 @@ use Rattle.object_heap.specs.Heap.{object_at, kind_in, found_of}
 use Rattle.js_evaluation.specs.State.{RunState, built_in_object, global_object}
 use Rattle.js_evaluation.specs.Objects.{Context, global_id}
 use Rattle.js_evaluation.specs.Scoping.{by_names, by_slots}
-use Rattle.js_evaluation.specs.Parts.{call_part, Within, call}
+use Rattle.js_evaluation.specs.Parts.{call_part, Within, calls}
 use Rattle.js_evaluation.specs.NativeTable.{native_of}
 use Rattle.js_evaluation.specs.Entries as def
 use Rattle.js_law_right.specs.EachIn.{EachInStatements}
@@ -101,38 +101,38 @@ module _ {setting : ℕ → Setting} where
   global_variables-agrees p (name ∷ names) =
       sees (λ u l _f. declared_unless-agrees (found_of u.heap global_id name) name p) (λ u. refl) then global_variables-agrees p names
 
+-- ---- the names of a function's scope, and of a script
+
+module _ {setting : ℕ → Setting} (functions : List FunctionTree) (z : RunState) (cx : Context) (xs : List Scope) (shape : Shape z.names z.heap.scopes cx.scope xs) where
+  parameters_from-agrees : (p : Place) (ps : List BoundName) (vs : List Value) → NamesRight xs ps
+      → Agrees setting z (def.parameters_from by_names cx p (map unbound ps) vs) (def.parameters_from by_slots cx p ps vs)
+  parameters_from-agrees p [] vs r = gives tt
+  parameters_from-agrees p (x ∷ ps) [] r = writes_name cx xs x p shape r.0 value.Undefined then parameters_from-agrees p ps [] r.1
+  parameters_from-agrees p (x ∷ ps) (v ∷ vs) r = writes_name cx xs x p shape r.0 v then parameters_from-agrees p ps vs r.1
+
+  function_object-agrees : (p : Place) (n : ℕ) → (setting n).around ≡ xs
+      → Agrees setting z (def.function_object (bare functions) n cx.scope p) (def.function_object functions n cx.scope p)
+  function_object-agrees p n r = closes_numbered functions z n cx.scope p (subst (Shape z.names z.heap.scopes cx.scope) (sym r) shape)
+
+  functions_from-agrees : (p : Place) (ss : Statements) → EachInStatements (right setting) xs ss
+      → Agrees setting z (def.functions_from by_names (bare functions) cx p (statements_unbound ss)) (def.functions_from by_slots functions cx p ss)
+  functions_from-agrees p no_statement r = gives tt
+  functions_from-agrees p (a_statement (DeclareNumbered q x n) ss) r =
+      function_object-agrees p n r.0.1 onto (λ f. writes_name cx xs x p shape r.0.0 f) then functions_from-agrees p ss r.1
+  functions_from-agrees p (a_statement s ss) r = functions_from-agrees p ss r.1
+
+  global_functions-agrees : (p : Place) (ss : Statements) → EachInStatements (right setting) xs ss
+      → Agrees setting z (def.global_functions (bare functions) cx p (statements_unbound ss)) (def.global_functions functions cx p ss)
+  global_functions-agrees p no_statement r = gives tt
+  global_functions-agrees p (a_statement (DeclareNumbered q x n) ss) r =
+      function_object-agrees p n r.0.1 onto (λ f. declare_function-agrees x.name f p) then global_functions-agrees p ss r.1
+  global_functions-agrees p (a_statement s ss) r = global_functions-agrees p ss r.1
+
 module _ {setting : ℕ → Setting} (functions : List FunctionTree)
     (stand : (n : ℕ) (f : FunctionTree) → slice_get functions n ≡ Some f → FunctionRight setting (setting n).around f)
     (go go' : Within) (agrees : WithinAgrees setting go go') where
-  calls : CallsAgree setting (call go) (call go')
-  calls z f this vs p = agrees z (call_part f this vs p) tt
-
-  module _ (z : RunState) (cx : Context) (xs : List Scope) (shape : Shape z.names z.heap.scopes cx.scope xs) where
-    -- ---- the names of a function's scope, and of a script
-
-    parameters_from-agrees : (p : Place) (ps : List BoundName) (vs : List Value) → NamesRight xs ps
-        → Agrees setting z (def.parameters_from by_names (bare functions) go cx p (map unbound ps) vs) (def.parameters_from by_slots functions go' cx p ps vs)
-    parameters_from-agrees p [] vs r = gives tt
-    parameters_from-agrees p (x ∷ ps) [] r = writes_name cx xs x p shape r.0 value.Undefined then parameters_from-agrees p ps [] r.1
-    parameters_from-agrees p (x ∷ ps) (v ∷ vs) r = writes_name cx xs x p shape r.0 v then parameters_from-agrees p ps vs r.1
-
-    function_object-agrees : (p : Place) (n : ℕ) → (setting n).around ≡ xs
-        → Agrees setting z (def.function_object (bare functions) n cx.scope p) (def.function_object functions n cx.scope p)
-    function_object-agrees p n r = closes_numbered functions z n cx.scope p (subst (Shape z.names z.heap.scopes cx.scope) (sym r) shape)
-
-    functions_from-agrees : (p : Place) (ss : Statements) → EachInStatements (right setting) xs ss
-        → Agrees setting z (def.functions_from by_names (bare functions) go cx p (statements_unbound ss)) (def.functions_from by_slots functions go' cx p ss)
-    functions_from-agrees p no_statement r = gives tt
-    functions_from-agrees p (a_statement (DeclareNumbered q x n) ss) r =
-        function_object-agrees p n r.0.1 onto (λ f. writes_name cx xs x p shape r.0.0 f) then functions_from-agrees p ss r.1
-    functions_from-agrees p (a_statement s ss) r = functions_from-agrees p ss r.1
-
-    global_functions-agrees : (p : Place) (ss : Statements) → EachInStatements (right setting) xs ss
-        → Agrees setting z (def.global_functions by_names (bare functions) go cx p (statements_unbound ss)) (def.global_functions by_slots functions go' cx p ss)
-    global_functions-agrees p no_statement r = gives tt
-    global_functions-agrees p (a_statement (DeclareNumbered q x n) ss) r =
-        function_object-agrees p n r.0.1 onto (λ f. declare_function-agrees x.name f p) then global_functions-agrees p ss r.1
-    global_functions-agrees p (a_statement s ss) r = global_functions-agrees p ss r.1
+  calls_agree : CallsAgree setting (calls go) (calls go')
+  calls_agree z f this vs p = agrees z (call_part f this vs p) tt
 
   -- ---- a function
 
@@ -141,8 +141,8 @@ module _ {setting : ℕ → Setting} (functions : List FunctionTree)
       → Agrees setting z (def.entered_with by_names (bare functions) go names around this vs p (function_unbound (a_function own parameters names ss))) (def.entered_with by_slots functions go' names around this vs p (a_function own parameters names ss))
   entered_same around xs own parameters names ss this vs p shape r = in_new_scope (named names) around xs p shape (λ u i l inner.
       let cx : Context = record { scope = i; this = this } in
-      parameters_from-agrees u cx (named names ∷ xs) inner p parameters vs r.parameters_are
-      then functions_from-agrees u cx (named names ∷ xs) inner p ss r.body_is
+      parameters_from-agrees functions u cx (named names ∷ xs) inner p parameters vs r.parameters_are
+      then functions_from-agrees functions u cx (named names ∷ xs) inner p ss r.body_is
       then subst (λ b. Agrees setting u (def.arguments_if b i p names vs) (def.arguments_if (def.has_own_arguments parameters ss) i p names vs))
       (sym (own_arguments_bare parameters ss)) (arguments_if-agrees (def.has_own_arguments parameters ss) i p names vs)
       then returns value.Undefined (statements_from-agrees functions go go' agrees u cx (named names ∷ xs) inner ss r.body_is))
@@ -168,7 +168,7 @@ module _ {setting : ℕ → Setting} (functions : List FunctionTree)
   called_by-agrees : {z : RunState} (k : Kind) (this : Value) (vs : List Value) (p : Place) → KindRight setting z k
       → Agrees setting z (def.called_by by_names (bare functions) go k this vs p) (def.called_by by_slots functions go' k this vs p)
   called_by-agrees (kind.Function n around) this vs p h = enters n around this vs p (h n around refl)
-  called_by-agrees (kind.Native n) this vs p h = native_outcome-agrees (call go) (call go') calls (native_of n) this vs p
+  called_by-agrees (kind.Native n) this vs p h = native_outcome-agrees (calls go) (calls go') calls_agree (native_of n) this vs p
   called_by-agrees k this vs p h = gives value.Undefined
 
   pub call_node-agrees : {z : RunState} (f : ObjectId) (this : Value) (vs : List Value) (p : Place)
@@ -184,7 +184,7 @@ module _ {setting : ℕ → Setting} (functions : List FunctionTree)
       get-agrees (value.Object f) (codes "prototype") p onto (λ prototype.
       make-agrees kind.Plain (Some (def.made_from prototype)) p (λ m i e. cc) onto (λ made.
       enters n around (value.Object made) vs p (h n around refl) onto (λ v. gives (def.object_or (value.Object made) v))))
-  constructed_by-agrees (kind.Native n) f vs p h = native_outcome-agrees (call go) (call go') calls (native_of n) value.Undefined vs p
+  constructed_by-agrees (kind.Native n) f vs p h = native_outcome-agrees (calls go) (calls go') calls_agree (native_of n) value.Undefined vs p
   constructed_by-agrees k f vs p h = gives value.Undefined
 
   pub construct_node-agrees : {z : RunState} (f : ObjectId) (vs : List Value) (p : Place)
@@ -199,7 +199,7 @@ module _ {setting : ℕ → Setting} (functions : List FunctionTree)
   unfolding def.load_node
   load_node-agrees z outer ss p shape r =
       let cx : Context = record { scope = outer; this = global_object } in
-      global_functions-agrees z cx [] shape p ss r
+      global_functions-agrees functions z cx [] shape p ss r
       then subst (λ ys. Agrees setting z (def.global_variables p ys) (def.global_variables p (variables_of_all ss))) (sym (variables_of_all-bare ss))
       (global_variables-agrees p (variables_of_all ss))
       then statements_from-agrees functions go go' agrees z cx [] shape ss r

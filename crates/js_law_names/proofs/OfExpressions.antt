@@ -29,7 +29,7 @@ use Rattle.run_trees.specs.Runs.{pure, ◌>>=◌, ◌>>◌}
 use Rattle.js_evaluation.specs.State.{RunState, charge, the_base, built_in_object, global_object}
 use Rattle.js_evaluation.specs.Objects.{Context, arity_of, closure, delete_property}
 use Rattle.js_evaluation.specs.Scoping.{by_names, by_slots}
-use Rattle.js_evaluation.specs.Parts.{expression_part, target_part, call_part, construct_part, Within, visit, visit_target, call, suffix_place}
+use Rattle.js_evaluation.specs.Parts.{expression_part, target_part, call_part, construct_part, Within, visit, visit_target, calls, suffix_place}
 use Rattle.js_evaluation.specs.Conversions.{text_methods, to_number, stepped, assigned_by, type_text}
 use Rattle.js_evaluation.specs.NativeTable.{constructs, native_of}
 use Rattle.js_evaluation.specs.Expressions as def
@@ -78,8 +78,8 @@ part_same b (a_suffix (a_call p es) ss) = part_same false ss
 
 module _ {setting : ℕ → Setting} (functions : List FunctionTree) (owns : (n : ℕ) → own_in (slice_get functions n) ≡ (setting n).own)
     (go go' : Within) (agrees : WithinAgrees setting go go') where
-  calls : CallsAgree setting (call go) (call go')
-  calls z f this vs p = agrees z (call_part f this vs p) tt
+  calls_agree : CallsAgree setting (calls go) (calls go')
+  calls_agree z f this vs p = agrees z (call_part f this vs p) tt
 
   module _ (z : RunState) (cx : Context) (xs : List Scope) (shape : Shape z.names z.heap.scopes cx.scope xs) where
     visits : (e : ExpressionTree) → EachInExpression (right setting) xs e → Agrees setting z (visit go cx (expression_unbound e)) (visit go' cx e)
@@ -148,7 +148,7 @@ module _ {setting : ℕ → Setting} (functions : List FunctionTree) (owns : (n 
 
     key_of-agrees : (base : Value) (e : ExpressionTree) (p : Place) → EachInExpression (right setting) xs e
         → Agrees setting z (def.key_of by_names (bare functions) go cx base (expression_unbound e) p) (def.key_of by_slots functions go' cx base e p)
-    key_of-agrees base e p r = visits e r onto (λ v. test_base-agrees base p then to_primitive-agrees (call go) (call go') calls text_methods v p)
+    key_of-agrees base e p r = visits e r onto (λ v. test_base-agrees base p then to_primitive-agrees (calls go) (calls go') calls_agree text_methods v p)
 
     suffix_charges : (s : SuffixTree) → Agrees setting z (charge (suffix_place (suffix_unbound s))) (charge (suffix_place s))
     suffix_charges s =
@@ -159,7 +159,7 @@ module _ {setting : ℕ → Setting} (functions : List FunctionTree) (owns : (n 
     suffix_at-agrees this v (a_member p name) r = test_base-agrees v p then get-agrees v name p onto (λ w. gives (v, w))
     suffix_at-agrees this v (an_index p e) r = key_of-agrees v e p r onto (λ key. get-agrees v (text_of key) p onto (λ w. gives (v, w)))
     suffix_at-agrees this v (a_call p es) r =
-        arguments_from-agrees [] es r onto (λ vs. call_value-agrees (call go) (call go') calls v this vs p onto (λ w. gives (global_object, w)))
+        arguments_from-agrees [] es r onto (λ vs. call_value-agrees (calls go) (calls go') calls_agree v this vs p onto (λ w. gives (global_object, w)))
 
     suffixes_from-agrees : (this v : Value) (ss : Suffixes) → EachInSuffixes (right setting) xs ss
         → Agrees setting z (def.suffixes_from by_names (bare functions) go cx this v (suffixes_unbound ss)) (def.suffixes_from by_slots functions go' cx this v ss)
@@ -218,10 +218,10 @@ module _ {setting : ℕ → Setting} (functions : List FunctionTree) (owns : (n 
     updated-agrees : (p : Place) (f : UpdateForm) (o : UpdateOp) (e : ExpressionTree) → EachInExpression (right setting) xs e
         → Agrees setting z (def.updated by_names (bare functions) go cx p f o (expression_unbound e)) (def.updated by_slots functions go' cx p f o e)
     updated-agrees p f o e r = refers functions go go' agrees z cx xs shape e
-        (λ x. def.read by_names cx x >>= (λ old. to_number (call go) old p >>= (λ n. stepped (call go) o n p >>= (λ m.
+        (λ x. def.read by_names cx x >>= (λ old. to_number (calls go) old p >>= (λ n. stepped (calls go) o n p >>= (λ m.
         def.write by_names cx x (value.Number m) p >> pure (def.given_by f (value.Number n) (value.Number m)))))) _ r
-        (λ x q. read-agrees z cx xs shape x q onto (λ old. to_number-agrees (call go) (call go') calls old p
-        onto (λ n. stepped-agrees (call go) (call go') o n p onto (λ m. write-agrees z cx xs shape x (value.Number m) p q
+        (λ x q. read-agrees z cx xs shape x q onto (λ old. to_number-agrees (calls go) (calls go') calls_agree old p
+        onto (λ n. stepped-agrees (calls go) (calls go') o n p onto (λ m. write-agrees z cx xs shape x (value.Number m) p q
         then gives (def.given_by f (value.Number n) (value.Number m))))))
 
     deleted-agrees : (p : Place) (e : ExpressionTree) → EachInExpression (right setting) xs e
@@ -244,9 +244,9 @@ module _ {setting : ℕ → Setting} (functions : List FunctionTree) (owns : (n 
     unary_value-agrees p unary.Delete e r = deleted-agrees p e r
     unary_value-agrees p unary.Void e r = visits e r then gives value.Undefined
     unary_value-agrees p unary.TypeOf e r = type_of-agrees e r onto (λ v. sees (λ u l _f. later z u l (gives (value.Text (type_text u.heap v)))) (λ u. refl))
-    unary_value-agrees p unary.Plus e r = visits e r onto (λ v. to_number-agrees (call go) (call go') calls v p onto (λ n. gives (value.Number n)))
-    unary_value-agrees p unary.Minus e r = visits e r onto (λ v. to_number-agrees (call go) (call go') calls v p onto (λ n. gives (value.Number (neg_ℤ n))))
-    unary_value-agrees p unary.BitNot e r = visits e r onto (λ v. to_bits-agrees (call go) (call go') calls v p onto (λ n. gives (value.Number (neg_ℤ n -ℤ pos 1))))
+    unary_value-agrees p unary.Plus e r = visits e r onto (λ v. to_number-agrees (calls go) (calls go') calls_agree v p onto (λ n. gives (value.Number n)))
+    unary_value-agrees p unary.Minus e r = visits e r onto (λ v. to_number-agrees (calls go) (calls go') calls_agree v p onto (λ n. gives (value.Number (neg_ℤ n))))
+    unary_value-agrees p unary.BitNot e r = visits e r onto (λ v. to_bits-agrees (calls go) (calls go') calls_agree v p onto (λ n. gives (value.Number (neg_ℤ n -ℤ pos 1))))
     unary_value-agrees p unary.Not e r = visits e r onto (λ v. gives (value.Bool (not (truth_of v))))
 
     -- ---- binary operators
@@ -255,7 +255,7 @@ module _ {setting : ℕ → Setting} (functions : List FunctionTree) (owns : (n 
         → Agrees setting z (def.operand_by by_names (bare functions) go cx p o v (expression_unbound e)) (def.operand_by by_slots functions go' cx p o v e)
     operand_by-agrees p op.Or v e r = either (truth_of v) (gives v) (visits e r)
     operand_by-agrees p op.And v e r = either (truth_of v) (visits e r) (gives v)
-    operand_by-agrees p o v e r = visits e r onto (λ w. binary-agrees (call go) (call go') calls o v w p)
+    operand_by-agrees p o v e r = visits e r onto (λ w. binary-agrees (calls go) (calls go') calls_agree o v w p)
 
     operands_from-agrees : (v : Value) (operands : Operands) → EachInOperands (right setting) xs operands
         → Agrees setting z (def.operands_from by_names (bare functions) go cx v (operands_unbound operands)) (def.operands_from by_slots functions go' cx v operands)
@@ -276,7 +276,7 @@ module _ {setting : ℕ → Setting} (functions : List FunctionTree) (owns : (n 
         → Agrees setting z (def.assigned_with by_names (bare functions) go cx p (reference_unbound x) o (expression_unbound e)) (def.assigned_with by_slots functions go' cx p x o e)
     assigned_with-agrees p x q None e r = visits e r
     assigned_with-agrees p x q (Some o) e r =
-        read-agrees z cx xs shape x q onto (λ old. visits e r onto (λ v. binary-agrees (call go) (call go') calls o old v p))
+        read-agrees z cx xs shape x q onto (λ old. visits e r onto (λ v. binary-agrees (calls go) (calls go') calls_agree o old v p))
 
     assigned-agrees : (p : Place) (e : ExpressionTree) (o : AssignOp) (v : ExpressionTree) → EachInExpression (right setting) xs e → EachInExpression (right setting) xs v
         → Agrees setting z (def.assigned by_names (bare functions) go cx p (expression_unbound e) o (expression_unbound v)) (def.assigned by_slots functions go' cx p e o v)

@@ -2,7 +2,6 @@
 use Rattle.std.proofs.Common.{◌≡◌, ℕ, zero, suc, List, [], ◌∷◌, Bool, true, false, ◌||◌, Option, Some, None, refl, sym, ◌∙◌, ap, subst, true≢false}
 use Rattle.std.specs.Prelude.{slice_get, codes}
 use Rattle.js_tree.specs.Tree.{FunctionTree, Statements}
-use Rattle.js_binding.specs.Resolved.{resolved}
 use Rattle.heap_values.specs.declared.ids.Kind.{Kind}
 use Rattle.heap_values.specs.declared.ids.Kind.TheVariants as kind
 use Rattle.heap_values.specs.declared.ids.ObjectId.{ObjectId}
@@ -23,8 +22,6 @@ use Rattle.js_evaluation.specs.Parts.{Part, expression_part, target_part, statem
 use Rattle.js_evaluation.specs.Evaluation.{node, evaluation, Entry, outer_scope, entry_of, called_for, script_run, first_state, tree_by}
 use Rattle.js_law_right.specs.Right.{Setting, FunctionRight, own_in, ProgramRight}
 use Rattle.js_law_right.specs.Unbound.{statements_unbound}
-use Rattle.js_law_right.proofs.RightLaw.{resolved_is_right, resolved_is_numbered}
-use Rattle.js_law_names.specs.Laws.{NamesAreSlots}
 use Rattle.js_law_names.proofs.Worlds.{Shape, later_self, Fine}
 use Rattle.js_law_names.proofs.Agreeing.{Agrees, fails, sees, ◌then◌}
 use Rattle.js_law_names.proofs.OfState.{charges-agrees, test_text-agrees}
@@ -99,7 +96,7 @@ none_built_in = refl
 
 -- The run by names of a program without the places of its names is the run by slots: the same tree, and the same end
 -- with each reply.
-runs-agree : (ss : Statements) (functions : List FunctionTree) → ProgramRight (ss, functions) → (entry : Entry)
+pub runs-agree : (ss : Statements) (functions : List FunctionTree) → ProgramRight (ss, functions) → (entry : Entry)
     → tree_by by_names (statements_unbound ss) (bare functions) entry ≡ tree_by by_slots ss functions entry
 runs-agree ss functions r entry =
     agree.agree start (later_self start) fine (λ result state. Done (Comes result (nameless state))) (λ result state. Done (Comes result (nameless state)))
@@ -117,8 +114,3 @@ runs-agree ss functions r entry =
     agree : Agrees r.setting start (script_run by_names (bare functions) entry (statements_unbound ss)) (script_run by_slots functions entry ss)
     agree = evaluation-agrees functions r.owns r.functions MOST_OPEN start (load_part outer_scope ss) (shape, r.body)
         then sees (λ t l f. called_for-agrees functions r.owns r.functions entry t (entry_of t.heap (found_of t.heap global_id (codes "FindProxyForURL")))) (λ t. refl)
-
-pub names_are_slots : NamesAreSlots
-names_are_slots script entry anonymous =
-    ap (λ program. tree_by by_names program.0 program.1 entry) (sym (resolved_is_numbered script))
-    ∙ runs-agree (resolved script).0 (resolved script).1 (resolved_is_right script anonymous) entry

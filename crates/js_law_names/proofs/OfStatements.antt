@@ -18,6 +18,7 @@ use Rattle.js_evaluation.specs.State.{RunState}
 use Rattle.js_evaluation.specs.Objects.{Context}
 use Rattle.js_evaluation.specs.Scoping.{by_names, by_slots}
 use Rattle.js_evaluation.specs.Parts.{expression_part, statement_part, Within, visit, execute}
+use Rattle.js_evaluation.specs.Expressions.{write}
 use Rattle.js_evaluation.specs.Statements as def
 use Rattle.js_evaluation.specs.Statements.{is_here, is_found}
 use Rattle.js_law_right.specs.EachIn.{EachInExpression, EachInOptional, EachInStatement, EachInOtherwise, EachInStatements, EachInDeclarations, EachInBranches, EachInStart, EachInTarget, EachInClauses, EachInHandler}
@@ -119,7 +120,7 @@ module _ {setting : ℕ → Setting} (functions : List FunctionTree) (go go' : W
   named_by-agrees : (p : Place) (target : TargetTree) (name : List ℕ) → EachInTarget (right setting) xs target
       → Agrees setting z (def.named_by by_names (bare functions) go cx p (target_unbound target) name) (def.named_by by_slots functions go' cx p target name)
   named_by-agrees p (target_value e) name r =
-      refers functions go go' agrees z cx xs shape e _ _ r (λ x q. write-agrees z cx xs shape x (value.Text name) p q)
+      refers functions go go' agrees z cx xs shape e (λ x. write by_names cx x (value.Text name) p) _ r (λ x q. write-agrees z cx xs shape x (value.Text name) p q)
   named_by-agrees p (target_declared x o) name r = writes_name cx xs x p shape r.0 (value.Text name)
 
   is_listed-agrees : (v : Value) (name : List ℕ) → Agrees setting z (def.is_listed v name) (def.is_listed v name)

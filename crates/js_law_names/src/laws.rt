@@ -2,8 +2,6 @@
 ghost use Rattle.js_law_names.specs.Laws.{NamesAreSlots, ReadsRunByNames};
 ghost use Rattle.js_law_names.specs.LookUps.{ReadsAreLookUps};
 
-use js_law_read::reads_are_anonymous;
-
 /// The run of a script by its names is the run of the resolved script by its slots, where no declared function has a
 /// name of its own.
 pub fn names_are_slots()
@@ -13,9 +11,7 @@ pub fn names_are_slots()
 /// So it is for each script that is read from a text.
 pub fn reads_run_by_names()
     ensures { ReadsRunByNames }
-{
-    reads_are_anonymous();
-}
+{}
 
 /// In a run by names, what is read is what a look-up finds along the scopes, of which each is a list of names with their
 /// values.
