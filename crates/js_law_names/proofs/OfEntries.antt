@@ -28,7 +28,7 @@ use Rattle.js_law_right.specs.EachIn.{EachInStatements}
 use Rattle.js_law_right.specs.Right.{Setting, NamesRight, right, CallRight, FunctionRight}
 use Rattle.js_law_right.specs.Unbound.{function_unbound, statement_unbound, statements_unbound}
 use Rattle.js_law_names.proofs.Worlds.{Shape}
-use Rattle.js_law_names.proofs.Agreeing.{Agrees, gives, sees, ◌onto◌, ◌then◌, either, returns}
+use Rattle.js_law_names.proofs.Agreeing.{Agrees, along, gives, sees, ◌onto◌, ◌then◌, either, returns}
 use Rattle.js_law_names.proofs.OfState.{make-agrees, define-agrees, write_slot-agrees, throw_type_error-agrees}
 use Rattle.js_law_names.proofs.OfObjects.{get-agrees, elements_from-agrees}
 use Rattle.js_law_names.proofs.OfConversions.{CallsAgree}
@@ -53,7 +53,8 @@ names_bare : (xs : List BoundName) → map (λ (x : BoundName). x.name) (map unb
 names_bare [] = refl
 names_bare (x ∷ xs) = ap (λ ys. x.name ∷ ys) (names_bare xs)
 
-own_arguments_bare : (xs : List BoundName) (ss : Statements) → def.has_own_arguments (map unbound xs) (statements_unbound ss) ≡ def.has_own_arguments xs ss
+own_arguments_bare : (xs : List BoundName) (ss : Statements)
+    → def.has_own_arguments (map unbound xs) (statements_unbound ss) ≡ def.has_own_arguments xs ss
 own_arguments_bare xs ss = ap₂ (λ ys zs. def.has_name arguments_name ys || def.has_name arguments_name zs) (names_bare xs) (functions_bare ss)
 
 -- a function of this kind stands in scopes that its setting has around it
@@ -63,7 +64,8 @@ KindRight setting z k = (n : ℕ) (i : ScopeId) → k ≡ kind.Function n i → 
 -- ---- what enters no part
 
 module _ {setting : ℕ → Setting} where
-  arguments_object-agrees : {z : RunState} (p : Place) (vs : List Value) → Agrees setting z (def.arguments_object p vs) (def.arguments_object p vs)
+  arguments_object-agrees : {z : RunState} (p : Place) (vs : List Value)
+      → Agrees setting z (def.arguments_object p vs) (def.arguments_object p vs)
   arguments_object-agrees p vs =
       make-agrees kind.Plain (Some (built_in_object built_in.ObjectPrototype)) p (λ n i e. cc) onto (λ object.
       define-agrees object (codes "length") (value.Number (pos (length vs))) false true p
@@ -115,14 +117,16 @@ module _ {setting : ℕ → Setting} (functions : List FunctionTree) (z : RunSta
   function_object-agrees p n r = closes_numbered functions z n cx.scope p (subst (Shape z.names z.heap.scopes cx.scope) (sym r) shape)
 
   functions_from-agrees : (p : Place) (ss : Statements) → EachInStatements (right setting) xs ss
-      → Agrees setting z (def.functions_from by_names (bare functions) cx p (statements_unbound ss)) (def.functions_from by_slots functions cx p ss)
+      → Agrees setting z (def.functions_from by_names (bare functions) cx p (statements_unbound ss))
+      (def.functions_from by_slots functions cx p ss)
   functions_from-agrees p no_statement r = gives tt
   functions_from-agrees p (a_statement (DeclareNumbered q x n) ss) r =
       function_object-agrees p n r.0.1 onto (λ f. writes_name cx xs x p shape r.0.0 f) then functions_from-agrees p ss r.1
   functions_from-agrees p (a_statement s ss) r = functions_from-agrees p ss r.1
 
   global_functions-agrees : (p : Place) (ss : Statements) → EachInStatements (right setting) xs ss
-      → Agrees setting z (def.global_functions (bare functions) cx p (statements_unbound ss)) (def.global_functions functions cx p ss)
+      → Agrees setting z (def.global_functions (bare functions) cx p (statements_unbound ss))
+      (def.global_functions functions cx p ss)
   global_functions-agrees p no_statement r = gives tt
   global_functions-agrees p (a_statement (DeclareNumbered q x n) ss) r =
       function_object-agrees p n r.0.1 onto (λ f. declare_function-agrees x.name f p) then global_functions-agrees p ss r.1
@@ -136,50 +140,58 @@ module _ {setting : ℕ → Setting} (functions : List FunctionTree)
 
   -- ---- a function
 
-  entered_same : {z : RunState} (around : ScopeId) (xs : List Scope) (own : Option BoundName) (parameters : List BoundName) (names : List (List ℕ)) (ss : Statements) (this : Value) (vs : List Value) (p : Place)
+  entered_same : {z : RunState} (around : ScopeId) (xs : List Scope) (own : Option BoundName) (parameters : List BoundName)
+      (names : List (List ℕ)) (ss : Statements) (this : Value) (vs : List Value) (p : Place)
       → Shape z.names z.heap.scopes around xs → CallRight setting xs parameters names ss
-      → Agrees setting z (def.entered_with by_names (bare functions) go names around this vs p (function_unbound (a_function own parameters names ss))) (def.entered_with by_slots functions go' names around this vs p (a_function own parameters names ss))
+      → Agrees setting z (def.entered_with by_names (bare functions) go names around this vs p (function_unbound (a_function own parameters names ss)))
+      (def.entered_with by_slots functions go' names around this vs p (a_function own parameters names ss))
   entered_same around xs own parameters names ss this vs p shape r = in_new_scope (named names) around xs p shape (λ u i l inner.
       let cx : Context = record { scope = i; this = this } in
       parameters_from-agrees functions u cx (named names ∷ xs) inner p parameters vs r.parameters_are
       then functions_from-agrees functions u cx (named names ∷ xs) inner p ss r.body_is
-      then subst (λ b. Agrees setting u (def.arguments_if b i p names vs) (def.arguments_if (def.has_own_arguments parameters ss) i p names vs))
-      (sym (own_arguments_bare parameters ss)) (arguments_if-agrees (def.has_own_arguments parameters ss) i p names vs)
+      then along (λ b. def.arguments_if b i p names vs) (sym (own_arguments_bare parameters ss))
+      (arguments_if-agrees (def.has_own_arguments parameters ss) i p names vs)
       then returns value.Undefined (statements_from-agrees functions go go' agrees u cx (named names ∷ xs) inner ss r.body_is))
 
   entered-agrees : {z : RunState} (around : ScopeId) (xs : List Scope) (this : Value) (vs : List Value) (p : Place) (o : Option FunctionTree)
       → Shape z.names z.heap.scopes around xs → ((f : FunctionTree) → o ≡ Some f → FunctionRight setting xs f)
-      → Agrees setting z (def.entered by_names (bare functions) go around this vs p (option_map function_unbound o)) (def.entered by_slots functions go' around this vs p o)
+      → Agrees setting z (def.entered by_names (bare functions) go around this vs p (option_map function_unbound o))
+      (def.entered by_slots functions go' around this vs p o)
   entered-agrees around xs this vs p None shape r = gives value.Undefined
-  entered-agrees {z = z} around xs this vs p (Some (a_function own parameters names ss)) shape r =
+  entered-agrees around xs this vs p (Some (a_function own parameters names ss)) shape r =
       let f = a_function own parameters names ss in
       let q = r f refl in
-      subst (λ all. Agrees setting z (def.entered_with by_names (bare functions) go all around this vs p (function_unbound f)) (def.entered_with by_slots functions go' names around this vs p f)) q.names_are
+      along (λ all. def.entered_with by_names (bare functions) go all around this vs p (function_unbound f)) q.names_are
       (entered_same around xs own parameters names ss this vs p shape q)
 
-  enters : {z : RunState} (n : ℕ) (around : ScopeId) (this : Value) (vs : List Value) (p : Place) → Shape z.names z.heap.scopes around (setting n).around
-      → Agrees setting z (def.entered by_names (bare functions) go around this vs p (slice_get (bare functions) n)) (def.entered by_slots functions go' around this vs p (slice_get functions n))
-  enters {z = z} n around this vs p shape =
-      subst (λ o. Agrees setting z (def.entered by_names (bare functions) go around this vs p o) (def.entered by_slots functions go' around this vs p (slice_get functions n))) (sym (get_map functions n))
+  enters : {z : RunState} (n : ℕ) (around : ScopeId) (this : Value) (vs : List Value) (p : Place)
+      → Shape z.names z.heap.scopes around (setting n).around
+      → Agrees setting z (def.entered by_names (bare functions) go around this vs p (slice_get (bare functions) n))
+      (def.entered by_slots functions go' around this vs p (slice_get functions n))
+  enters n around this vs p shape =
+      along (λ o. def.entered by_names (bare functions) go around this vs p o) (sym (get_map functions n))
       (entered-agrees around (setting n).around this vs p (slice_get functions n) shape (stand n))
 
   -- ---- a call
 
   called_by-agrees : {z : RunState} (k : Kind) (this : Value) (vs : List Value) (p : Place) → KindRight setting z k
-      → Agrees setting z (def.called_by by_names (bare functions) go k this vs p) (def.called_by by_slots functions go' k this vs p)
+      → Agrees setting z (def.called_by by_names (bare functions) go k this vs p)
+      (def.called_by by_slots functions go' k this vs p)
   called_by-agrees (kind.Function n around) this vs p h = enters n around this vs p (h n around refl)
   called_by-agrees (kind.Native n) this vs p h = native_outcome-agrees (calls go) (calls go') calls_agree (native_of n) this vs p
   called_by-agrees k this vs p h = gives value.Undefined
 
   pub call_node-agrees : {z : RunState} (f : ObjectId) (this : Value) (vs : List Value) (p : Place)
-      → Agrees setting z (def.call_node by_names (bare functions) go f this vs p) (def.call_node by_slots functions go' f this vs p)
+      → Agrees setting z (def.call_node by_names (bare functions) go f this vs p)
+      (def.call_node by_slots functions go' f this vs p)
   unfolding def.call_node
   call_node-agrees f this vs p = sees (λ u l fine. called_by-agrees (kind_in (object_at u.heap f)) this vs p (λ n i e. fine.closures f.0 n i e)) (λ u. refl)
 
   -- ---- `new`
 
   constructed_by-agrees : {z : RunState} (k : Kind) (f : ObjectId) (vs : List Value) (p : Place) → KindRight setting z k
-      → Agrees setting z (def.constructed_by by_names (bare functions) go k f vs p) (def.constructed_by by_slots functions go' k f vs p)
+      → Agrees setting z (def.constructed_by by_names (bare functions) go k f vs p)
+      (def.constructed_by by_slots functions go' k f vs p)
   constructed_by-agrees (kind.Function n around) f vs p h =
       get-agrees (value.Object f) (codes "prototype") p onto (λ prototype.
       make-agrees kind.Plain (Some (def.made_from prototype)) p (λ m i e. cc) onto (λ made.
@@ -188,18 +200,20 @@ module _ {setting : ℕ → Setting} (functions : List FunctionTree)
   constructed_by-agrees k f vs p h = gives value.Undefined
 
   pub construct_node-agrees : {z : RunState} (f : ObjectId) (vs : List Value) (p : Place)
-      → Agrees setting z (def.construct_node by_names (bare functions) go f vs p) (def.construct_node by_slots functions go' f vs p)
+      → Agrees setting z (def.construct_node by_names (bare functions) go f vs p)
+      (def.construct_node by_slots functions go' f vs p)
   unfolding def.construct_node
   construct_node-agrees f vs p = sees (λ u l fine. constructed_by-agrees (kind_in (object_at u.heap f)) f vs p (λ n i e. fine.closures f.0 n i e)) (λ u. refl)
 
   -- ---- the load of a script
 
-  pub load_node-agrees : (z : RunState) (outer : ScopeId) (ss : Statements) (p : Place) → Shape z.names z.heap.scopes outer [] → EachInStatements (right setting) [] ss
-      → Agrees setting z (def.load_node by_names (bare functions) go outer (statements_unbound ss) p) (def.load_node by_slots functions go' outer ss p)
+  pub load_node-agrees : (z : RunState) (outer : ScopeId) (ss : Statements) (p : Place)
+      → Shape z.names z.heap.scopes outer [] → EachInStatements (right setting) [] ss
+      → Agrees setting z (def.load_node by_names (bare functions) go outer (statements_unbound ss) p)
+      (def.load_node by_slots functions go' outer ss p)
   unfolding def.load_node
   load_node-agrees z outer ss p shape r =
       let cx : Context = record { scope = outer; this = global_object } in
       global_functions-agrees functions z cx [] shape p ss r
-      then subst (λ ys. Agrees setting z (def.global_variables p ys) (def.global_variables p (variables_of_all ss))) (sym (variables_of_all-bare ss))
-      (global_variables-agrees p (variables_of_all ss))
+      then along (λ ys. def.global_variables p ys) (sym (variables_of_all-bare ss)) (global_variables-agrees p (variables_of_all ss))
       then statements_from-agrees functions go go' agrees z cx [] shape ss r

@@ -10,7 +10,8 @@ use Rattle.js_law_names.proofs.Agreeing.{Agrees, gives, ◌then◌}
 use Rattle.js_law_names.proofs.OfState.{spend-agrees}
 
 module _ {setting : ℕ → Setting} where
-  pub gives_text-agrees : {z : RunState} (t : List ℕ) (place : Place) → Agrees setting z (gives_text t place) (gives_text t place)
+  pub gives_text-agrees : {z : RunState} (t : List ℕ) (place : Place)
+      → Agrees setting z (gives_text t place) (gives_text t place)
   gives_text-agrees t place = spend-agrees t place then gives (value.Text t)
 
   pub given-agrees : {z : RunState} (v : Value) (place : Place) → Agrees setting z (given v place) (given v place)

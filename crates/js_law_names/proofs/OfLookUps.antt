@@ -25,7 +25,8 @@ next_slot : (view : Option ScopeView) (slot : ℕ) (o : Option ℕ) (other : Opt
 next_slot view slot None other = refl
 next_slot view slot (Some n) other = let e : slot + suc n ≡ suc slot + n = omega arith in ap (λ k. Some (slot_at view k)) e
 
-by_test : (t : Bool) (view : Option ScopeView) (slot : ℕ) (o : Option ℕ) (other rest : Option Value) → value_behind view (suc slot) o other ≡ rest
+by_test : (t : Bool) (view : Option ScopeView) (slot : ℕ) (o : Option ℕ) (other rest : Option Value)
+    → value_behind view (suc slot) o other ≡ rest
     → value_behind view slot (if t then Some 0 else option_map suc o) other ≡ (if t then Some (slot_at view slot) else rest)
 by_test true view slot o other rest h = ap (λ k. Some (slot_at view k)) (add-zero slot)
 by_test false view slot o other rest h = next_slot view slot o other ∙ h
@@ -44,7 +45,8 @@ value_at h (in_own i) = Some (slot_of h i 0)
 value_at h in_global = None
 
 module _ (names : List Scope) (h : HeapView) where
-  placed : (i : ScopeId) (o : Option ℕ) (further : Standing) → value_at h (place_or i o further) ≡ value_behind (scope_at h i) 0 o (value_at h further)
+  placed : (i : ScopeId) (o : Option ℕ) (further : Standing)
+      → value_at h (place_or i o further) ≡ value_behind (scope_at h i) 0 o (value_at h further)
   placed i None further = refl
   placed i (Some n) further = let e : n ≡ 0 + n = omega arith in ap (λ k. Some (slot_at (scope_at h i) k)) e
 
@@ -59,7 +61,8 @@ module _ (names : List Scope) (h : HeapView) where
   in_one i (Some (named ys)) x further = placed i (place_of x ys) further ∙ places (scope_at h i) 0 x ys (value_at h further)
   in_one i (Some (itself y)) x further = own_placed (bytes_eq x y) i further
 
-  from_one : (n : ℕ) (o : Option ScopeId) (x : List ℕ) → value_at h (found_from n names h o x) ≡ look_up x (environment_from n names h o)
+  from_one : (n : ℕ) (o : Option ScopeId) (x : List ℕ)
+      → value_at h (found_from n names h o x) ≡ look_up x (environment_from n names h o)
   from_one zero o x = refl
   from_one (suc n) None x = refl
   from_one (suc n) (Some i) x = in_one i (slice_get names i.0) x _

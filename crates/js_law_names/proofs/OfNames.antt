@@ -48,30 +48,35 @@ bound_stands h scope (Own up) = in_own (scope_out h up scope)
 bound_stands h scope Global = in_global
 
 module _ (names : List Scope) (h : HeapView) where
-  out_next : (up : ℕ) (i : ScopeId) → scope_out h (suc up) i ≡ around_or (parent_in (scope_at h (scope_out h up i))) (scope_out h up i)
+  out_next : (up : ℕ) (i : ScopeId)
+      → scope_out h (suc up) i ≡ around_or (parent_in (scope_at h (scope_out h up i))) (scope_out h up i)
   out_next zero i = refl
   out_next (suc up) i = out_next up (around_or (parent_in (scope_at h i)) i)
 
   parent_is : (i : ScopeId) (x : Scope) (o : Option ScopeId) → IsScope names h.scopes i x o → parent_in (scope_at h i) ≡ o
   parent_is i x o k = ap parent_in k.there ∙ k.parent
 
-  outward : (start : ScopeId) (up : ℕ) (i : ScopeId) (x : Scope) (p : ScopeId) → scope_out h up start ≡ i → IsScope names h.scopes i x (Some p)
+  outward : (start : ScopeId) (up : ℕ) (i : ScopeId) (x : Scope) (p : ScopeId) → scope_out h up start ≡ i
+      → IsScope names h.scopes i x (Some p)
       → scope_out h (suc up) start ≡ p
   outward start up i x p at k =
       out_next up start ∙ ap (λ j. around_or (parent_in (scope_at h j)) j) at ∙ ap (λ o. around_or o i) (parent_is i x (Some p) k)
 
-  place_stands : (start : ScopeId) (up : ℕ) (i : ScopeId) (o : Option ℕ) (further : Standing) (b : Bound) → scope_out h up start ≡ i
+  place_stands : (start : ScopeId) (up : ℕ) (i : ScopeId) (o : Option ℕ) (further : Standing) (b : Bound)
+      → scope_out h up start ≡ i
       → further ≡ bound_stands h start b → place_or i o further ≡ bound_stands h start (slot_or up o b)
   place_stands start up i None further b at k = k
   place_stands start up i (Some slot) further b at k = ap (λ j. in_scope j slot) (sym at)
 
-  own_stands : (start : ScopeId) (up : ℕ) (i : ScopeId) (t : Bool) (further : Standing) (b : Bound) → scope_out h up start ≡ i
+  own_stands : (start : ScopeId) (up : ℕ) (i : ScopeId) (t : Bool) (further : Standing) (b : Bound)
+      → scope_out h up start ≡ i
       → further ≡ bound_stands h start b → (if t then in_own i else further) ≡ bound_stands h start (if t then Own up else b)
   own_stands start up i true further b at k = ap in_own (sym at)
   own_stands start up i false further b at k = k
 
   -- the look-up from a scope on comes to the place of the binding among the scopes around
-  found_binding : (start : ScopeId) (x : List ℕ) (n up : ℕ) (i : ScopeId) (xs : List Scope) → scope_out h up start ≡ i → i.0 < n → Shape names h.scopes i xs
+  found_binding : (start : ScopeId) (x : List ℕ) (n up : ℕ) (i : ScopeId) (xs : List Scope) → scope_out h up start ≡ i
+      → i.0 < n → Shape names h.scopes i xs
       → found_from n names h (Some i) x ≡ bound_stands h start (binding_from up x xs)
   found_binding start x zero up i xs at b k = absurd (omega (arith, b))
   found_binding start x (suc n) up i [] at b k =
@@ -157,7 +162,8 @@ module _ (cx : Context) (x : List ℕ) (place : Place) where
 bound : (xs : List Scope) (x : BoundName) → NameRight xs x → is_bound x.bound ≡ true
 bound xs x right = ap is_bound right ∙ bound_somewhere x.name 0 xs
 
-at_bound : (z t : RunState) (cx : Context) (xs : List Scope) (x : BoundName) → Shape z.names z.heap.scopes cx.scope xs → NameRight xs x → Later z t
+at_bound : (z t : RunState) (cx : Context) (xs : List Scope) (x : BoundName) → Shape z.names z.heap.scopes cx.scope xs
+    → NameRight xs x → Later z t
     → standing t cx.scope x.name ≡ bound_stands t.heap cx.scope x.bound
 at_bound z t cx xs x h right l = stands t cx.scope xs x (shape_later z t cx.scope xs l h) right
 
@@ -172,27 +178,32 @@ number_in k = 0
 module _ {setting : ℕ → Setting} where
   -- ---- names
 
-  global_value-agrees : {z : RunState} (name : List ℕ) (f : Found) (place : Place) → Agrees setting z (global_value name f place) (global_value name f place)
+  global_value-agrees : {z : RunState} (name : List ℕ) (f : Found) (place : Place)
+      → Agrees setting z (global_value name f place) (global_value name f place)
   global_value-agrees name (found.Value v) place = gives v
   global_value-agrees name found.Absent place = throw_error-agrees built_in.ReferenceErrorPrototype (name ++ codes " is not defined") place
   global_value-agrees name (found.LeftOut left_out) place = halts _
 
-  at_reads : {z : RunState} (x : List ℕ) (place : Place) (at : Standing) → Agrees setting z (read_at x place at) (read_at x place at)
+  at_reads : {z : RunState} (x : List ℕ) (place : Place) (at : Standing)
+      → Agrees setting z (read_at x place at) (read_at x place at)
   at_reads x place (in_scope i slot) = sees (λ t l f. gives (slot_of t.heap i slot)) (λ t. refl)
   at_reads x place (in_own i) = sees (λ t l f. gives (slot_of t.heap i 0)) (λ t. refl)
   at_reads x place in_global = sees (λ t l f. global_value-agrees x (found_of t.heap global_id x) place) (λ t. refl)
 
-  at_undefined : {z : RunState} (x : List ℕ) (place : Place) (at : Standing) → Agrees setting z (read_or_undefined_at x place at) (read_or_undefined_at x place at)
+  at_undefined : {z : RunState} (x : List ℕ) (place : Place) (at : Standing)
+      → Agrees setting z (read_or_undefined_at x place at) (read_or_undefined_at x place at)
   at_undefined x place (in_scope i slot) = at_reads x place (in_scope i slot)
   at_undefined x place (in_own i) = at_reads x place (in_own i)
   at_undefined x place in_global = sees (λ t l f. found_value-agrees Undefined (found_of t.heap global_id x) place) (λ t. refl)
 
-  at_writes : {z : RunState} (x : List ℕ) (v : Value) (place : Place) (at : Standing) → Agrees setting z (write_at x v place at) (write_at x v place at)
+  at_writes : {z : RunState} (x : List ℕ) (v : Value) (place : Place) (at : Standing)
+      → Agrees setting z (write_at x v place at) (write_at x v place at)
   at_writes x v place (in_scope i slot) = write_slot-agrees i slot v
   at_writes x v place (in_own i) = gives tt
   at_writes x v place in_global = put_on-agrees global_id x v place
 
-  at_deletes : {z : RunState} (x : List ℕ) (place : Place) (at : Standing) → Agrees setting z (delete_at x place at) (delete_at x place at)
+  at_deletes : {z : RunState} (x : List ℕ) (place : Place) (at : Standing)
+      → Agrees setting z (delete_at x place at) (delete_at x place at)
   at_deletes x place (in_scope i slot) = gives (Truth false)
   at_deletes x place (in_own i) = gives (Truth false)
   at_deletes x place in_global = delete_property-agrees (Object global_id) x place
@@ -212,7 +223,8 @@ module _ {setting : ℕ → Setting} where
           ∙ sym (undefined_there cx x.name place x.bound (bound xs x right) k' (nameless t));
     }
 
-    pub writes_name : (v : Value) → Agrees setting z (names.write_name cx (unbound x) v place) (slots.write_name cx x v place)
+    pub writes_name : (v : Value)
+        → Agrees setting z (names.write_name cx (unbound x) v place) (slots.write_name cx x v place)
     writes_name v = record {
       agree = λ t l f k k' w. ap (λ at. write_at x.name v place at k t) (at_bound z t cx xs x h right l)
           ∙ (at_writes x.name v place (bound_stands t.heap cx.scope x.bound)).agree t (later_self t) f k k' w
@@ -228,7 +240,8 @@ module _ {setting : ℕ → Setting} where
 
   -- ---- functions
 
-  function_now : (t : RunState) (n : ℕ) (scope : ScopeId) (prototype : Option ObjectId) (place : Place) (b : Bool) → Fine setting t
+  function_now : (t : RunState) (n : ℕ) (scope : ScopeId) (prototype : Option ObjectId) (place : Place) (b : Bool)
+      → Fine setting t
       → Shape t.names t.heap.scopes scope (setting n).around
       → let there : Result (ObjectId × HeapView) HeapAnswer = Ok (record { 0 = length t.heap.objects }, record t.heap { objects = t.heap.objects ++ empty_object (kind.Function n scope) prototype ∷ []; cells = t.heap.cells + 1 }) in
       Now setting t (made place (if b then Err answer.HeapFull else there)) (made place (if b then Err answer.HeapFull else there))
@@ -244,7 +257,8 @@ module _ {setting : ℕ → Setting} where
       record { now = λ k k' w. w (Ok (record { 0 = length t.heap.objects })) u (record { kept = λ i x around h. h }) fine }
 
   -- a function is made in scopes that its setting has around it
-  pub closes : {z : RunState} (n arity : ℕ) (scope : ScopeId) (place : Place) → Shape z.names z.heap.scopes scope (setting n).around
+  pub closes : {z : RunState} (n arity : ℕ) (scope : ScopeId) (place : Place)
+      → Shape z.names z.heap.scopes scope (setting n).around
       → Agrees setting z (closure n arity scope place) (closure n arity scope place)
   closes {z = z} n arity scope place h =
       reads_now (λ t. made place (made_of t.heap (kind.Function n scope) (Some (built_in_object built_in.FunctionPrototype))))

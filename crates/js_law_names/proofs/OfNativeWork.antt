@@ -40,16 +40,19 @@ use Rattle.js_law_names.proofs.OfHanded.{gives_text-agrees, given-agrees}
 module _ {setting : ℕ → Setting} where
   -- ---- lists
 
-  array_of-agrees : {z : RunState} (vs : List Value) (place : Place) → Agrees setting z (def.array_of vs place) (def.array_of vs place)
+  array_of-agrees : {z : RunState} (vs : List Value) (place : Place)
+      → Agrees setting z (def.array_of vs place) (def.array_of vs place)
   array_of-agrees vs place =
       make-agrees kind.Array (Some (built_in_object built_in.ArrayPrototype)) place (λ _n _i e. cc) onto (λ made.
       elements_from-agrees place made 0 vs then gives (value.Object made))
 
-  spend_all-agrees : {z : RunState} (ts : List (List ℕ)) (place : Place) → Agrees setting z (def.spend_all ts place) (def.spend_all ts place)
+  spend_all-agrees : {z : RunState} (ts : List (List ℕ)) (place : Place)
+      → Agrees setting z (def.spend_all ts place) (def.spend_all ts place)
   spend_all-agrees [] place = gives tt
   spend_all-agrees (t ∷ ts) place = spend-agrees t place then spend_all-agrees ts place
 
-  gives_texts-agrees : {z : RunState} (ts : List (List ℕ)) (place : Place) → Agrees setting z (def.gives_texts ts place) (def.gives_texts ts place)
+  gives_texts-agrees : {z : RunState} (ts : List (List ℕ)) (place : Place)
+      → Agrees setting z (def.gives_texts ts place) (def.gives_texts ts place)
   gives_texts-agrees ts place = spend_all-agrees ts place then array_of-agrees (map value.Text ts) place
 
   -- ---- objects
@@ -58,7 +61,8 @@ module _ {setting : ℕ → Setting} where
   new_object-agrees place =
       make-agrees kind.Plain (Some (built_in_object built_in.ObjectPrototype)) place (λ _n _i e. cc) onto (λ id. gives (value.Object id))
 
-  object_of-agrees : {z : RunState} (v : Value) (place : Place) → Agrees setting z (def.object_of v place) (def.object_of v place)
+  object_of-agrees : {z : RunState} (v : Value) (place : Place)
+      → Agrees setting z (def.object_of v place) (def.object_of v place)
   object_of-agrees value.Undefined place = new_object-agrees place
   object_of-agrees value.Null place = new_object-agrees place
   object_of-agrees (value.Object id) place = gives (value.Object id)
@@ -66,78 +70,92 @@ module _ {setting : ℕ → Setting} where
   object_of-agrees (value.Number n) place = halts _
   object_of-agrees (value.Text t) place = halts _
 
-  keys_value-agrees : {z : RunState} (v : Value) (place : Place) → Agrees setting z (def.keys_value v place) (def.keys_value v place)
+  keys_value-agrees : {z : RunState} (v : Value) (place : Place)
+      → Agrees setting z (def.keys_value v place) (def.keys_value v place)
   keys_value-agrees (value.Object id) place = sees (λ z _l _f. gives_texts-agrees (def.keys_in z.heap (value.Object id)) place) (λ z. refl)
   keys_value-agrees v place = throw_type_error-agrees (codes "not an object") place
 
-  has_own-agrees : {z : RunState} (v : Value) (name : List ℕ) (place : Place) → Agrees setting z (def.has_own v name place) (def.has_own v name place)
+  has_own-agrees : {z : RunState} (v : Value) (name : List ℕ) (place : Place)
+      → Agrees setting z (def.has_own v name place) (def.has_own v name place)
   has_own-agrees (value.Object id) name place = sees (λ z _l _f. is_there-agrees (own_found_in (object_at z.heap id) name) place) (λ z. refl)
   has_own-agrees v name place = gives (value.Bool (is_some (own_of v name)))
 
   -- ---- arrays
 
-  array_made-agrees : {z : RunState} (vs : List Value) (place : Place) → Agrees setting z (def.array_made vs place) (def.array_made vs place)
+  array_made-agrees : {z : RunState} (vs : List Value) (place : Place)
+      → Agrees setting z (def.array_made vs place) (def.array_made vs place)
   array_made-agrees (value.Number n ∷ []) place =
       make-agrees kind.Array (Some (built_in_object built_in.ArrayPrototype)) place (λ _n _i e. cc) onto (λ made.
       put_on-agrees made (codes "length") (value.Number n) place then gives (value.Object made))
   array_made-agrees vs place = array_of-agrees vs place
 
-  array_end_now : {z : RunState} (place : Place) (result : Result (Value × HeapView) HeapAnswer) → Leads beside z.heap result → Fine setting z → Now setting z (def.array_end place result) (def.array_end place result)
+  array_end_now : {z : RunState} (place : Place) (result : Result (Value × HeapView) HeapAnswer) → Leads beside z.heap result
+      → Fine setting z → Now setting z (def.array_end place result) (def.array_end place result)
   array_end_now place (Ok x) h f = heap_now x.1 h f (given-agrees x.0 place)
   array_end_now place (Err e) h f = halts_now _
 
-  array_work-agrees : {z : RunState} (m : ArrayMethod) (vs : List Value) (place : Place) → Agrees setting z (def.array_work m vs place) (def.array_work m vs place)
+  array_work-agrees : {z : RunState} (m : ArrayMethod) (vs : List Value) (place : Place)
+      → Agrees setting z (def.array_work m vs place) (def.array_work m vs place)
   array_work-agrees m (value.Object id ∷ vs) place = sees_now (λ z _l f. array_end_now place (array_result m z.heap id vs) (array_result_leads m z.heap id vs) f) (λ z. refl)
   array_work-agrees m vs place = gives value.Undefined
 
   -- ---- texts
 
-  text_end-agrees : {z : RunState} (r : TextResult) (place : Place) → Agrees setting z (def.text_end r place) (def.text_end r place)
+  text_end-agrees : {z : RunState} (r : TextResult) (place : Place)
+      → Agrees setting z (def.text_end r place) (def.text_end r place)
   text_end-agrees (text.Text t) place = gives_text-agrees t place
   text_end-agrees (text.Texts ts) place = gives_texts-agrees ts place
   text_end-agrees (text.Number n) place = gives (value.Number n)
   text_end-agrees text.NotANumber place = fails _ place
   text_end-agrees text.TooLong place = fails _ place
 
-  text_work-agrees : {z : RunState} (m : TextMethod) (vs : List Value) (place : Place) → Agrees setting z (def.text_work m vs place) (def.text_work m vs place)
+  text_work-agrees : {z : RunState} (m : TextMethod) (vs : List Value) (place : Place)
+      → Agrees setting z (def.text_work m vs place) (def.text_work m vs place)
   text_work-agrees m (value.Text t ∷ vs) place = test_text-agrees t place then text_end-agrees (text_result m t (map def.as_text_arg vs)) place
   text_work-agrees m vs place = gives value.Undefined
 
-  string_of-agrees : {z : RunState} (vs : List Value) (place : Place) → Agrees setting z (def.string_of vs place) (def.string_of vs place)
+  string_of-agrees : {z : RunState} (vs : List Value) (place : Place)
+      → Agrees setting z (def.string_of vs place) (def.string_of vs place)
   string_of-agrees [] place = gives_text-agrees [] place
   string_of-agrees (v ∷ vs) place = given-agrees v place
 
   -- ---- numbers
 
-  number_of-agrees : {z : RunState} (vs : List Value) (place : Place) → Agrees setting z (def.number_of vs place) (def.number_of vs place)
+  number_of-agrees : {z : RunState} (vs : List Value) (place : Place)
+      → Agrees setting z (def.number_of vs place) (def.number_of vs place)
   number_of-agrees [] place = gives _
   number_of-agrees (value.Number n ∷ vs) place = gives (value.Number n)
   number_of-agrees vs place = fails _ place
 
-  number_end-agrees : {z : RunState} (r : NumberResult) (place : Place) → Agrees setting z (def.number_end r place) (def.number_end r place)
+  number_end-agrees : {z : RunState} (r : NumberResult) (place : Place)
+      → Agrees setting z (def.number_end r place) (def.number_end r place)
   number_end-agrees (number.Number n) place = gives (value.Number n)
   number_end-agrees (number.Text t) place = gives_text-agrees t place
   number_end-agrees number.Range place = fails _ place
   number_end-agrees number.NotANumber place = fails _ place
   number_end-agrees number.BadRadix place = throw_error-agrees built_in.RangeErrorPrototype (codes "invalid radix") place
 
-  number_work-agrees : {z : RunState} (m : NumberMethod) (vs : List Value) (place : Place) → Agrees setting z (def.number_work m vs place) (def.number_work m vs place)
+  number_work-agrees : {z : RunState} (m : NumberMethod) (vs : List Value) (place : Place)
+      → Agrees setting z (def.number_work m vs place) (def.number_work m vs place)
   number_work-agrees m vs place = number_end-agrees (number_result m (map def.as_number_arg vs)) place
 
   -- ---- errors
 
-  error_with-agrees : {z : RunState} (error : ObjectId) (message : Value) (place : Place) → Agrees setting z (def.error_with error message place) (def.error_with error message place)
+  error_with-agrees : {z : RunState} (error : ObjectId) (message : Value) (place : Place)
+      → Agrees setting z (def.error_with error message place) (def.error_with error message place)
   error_with-agrees error value.Undefined place = gives (value.Object error)
   error_with-agrees error message place = define-agrees error (codes "message") message false true place then gives (value.Object error)
 
-  make_error-agrees : {z : RunState} (prototype : Option BuiltIn) (message : Value) (place : Place) → Agrees setting z (def.make_error prototype message place) (def.make_error prototype message place)
+  make_error-agrees : {z : RunState} (prototype : Option BuiltIn) (message : Value) (place : Place)
+      → Agrees setting z (def.make_error prototype message place) (def.make_error prototype message place)
   make_error-agrees None message place = gives value.Undefined
   make_error-agrees (Some prototype) message place =
       make-agrees kind.Error (Some (built_in_object prototype)) place (λ _n _i e. cc) onto (λ error. error_with-agrees error message place)
 
   -- ---- all of them
 
-  pub plain_work-agrees : {z : RunState} (n : PlainNative) (vs : List Value) (place : Place) → Agrees setting z (def.plain_work n vs place) (def.plain_work n vs place)
+  pub plain_work-agrees : {z : RunState} (n : PlainNative) (vs : List Value) (place : Place)
+      → Agrees setting z (def.plain_work n vs place) (def.plain_work n vs place)
   plain_work-agrees plain.FunctionPrototype vs place = gives value.Undefined
   plain_work-agrees plain.Object vs place = object_of-agrees (argument 0 vs) place
   plain_work-agrees plain.Array vs place = array_made-agrees vs place

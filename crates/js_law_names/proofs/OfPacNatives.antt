@@ -14,7 +14,8 @@ use Rattle.js_law_names.proofs.Agreeing.{Agrees, fails, ◌then◌}
 use Rattle.js_law_names.proofs.OfState.{charges-agrees}
 use Rattle.js_law_names.proofs.OfHanded.{given-agrees}
 
-followed_same : {A B : Type 0} (tree : RunTree A) (f g : A → RunTree B) → ((a : A) → f a ≡ g a) → followed_by tree f ≡ followed_by tree g
+followed_same : {A B : Type 0} (tree : RunTree A) (f g : A → RunTree B) → ((a : A) → f a ≡ g a)
+    → followed_by tree f ≡ followed_by tree g
 unfolding followed_by
 followed_same (Done a) f g h = h a
 followed_same (Ask name go) f g h = ap (Ask name) (λ i reply. followed_same (go reply) f g h i)
@@ -25,10 +26,12 @@ module _ {setting : ℕ → Setting} where
   pac_end-agrees place (Gives v) = given-agrees v place
   pac_end-agrees place AsksTooMany = fails _ place
 
-  pub pac_work-agrees : {z : RunState} (f : PacFunction) (vs : List Value) (place : Place) → Agrees setting z (pac_work f vs place) (pac_work f vs place)
+  pub pac_work-agrees : {z : RunState} (f : PacFunction) (vs : List Value) (place : Place)
+      → Agrees setting z (pac_work f vs place) (pac_work f vs place)
   pac_work-agrees f vs place = record {
     agree = λ t l fine k k' w. followed_same (pac_call f vs t.now t.settings.my_ip) _ _ (λ end. (pac_end-agrees place end).agree t (later_self t) fine k k' w);
   }
 
-  pub pac_done-agrees : {z : RunState} (f : PacFunction) (vs : List Value) (place : Place) → Agrees setting z (pac_done f vs place) (pac_done f vs place)
+  pub pac_done-agrees : {z : RunState} (f : PacFunction) (vs : List Value) (place : Place)
+      → Agrees setting z (pac_done f vs place) (pac_done f vs place)
   pac_done-agrees f vs place = charges-agrees (pac_walk f vs) place then pac_work-agrees f vs place

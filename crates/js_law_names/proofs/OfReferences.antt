@@ -1,5 +1,5 @@
 -- References: they hold names, and those of the two runs differ in the places of names alone.
-use Rattle.std.proofs.Common.{◌≡◌, ℕ, List, refl, sym, ap, subst}
+use Rattle.std.proofs.Common.{◌≡◌, ℕ, List, refl, sym, ap}
 use Rattle.js_tree.specs.declared.place.Place.{Place}
 use Rattle.js_tree.specs.Tree.{ExpressionTree, Name, Suffixed, a_member, an_index, a_call, Suffixes, no_suffix, a_suffix, FunctionTree}
 use Rattle.js_binding.specs.Scopes.{Scope}
@@ -16,7 +16,7 @@ use Rattle.js_law_right.specs.EachIn.{EachInExpression}
 use Rattle.js_law_right.specs.Right.{Setting, NameRight, right}
 use Rattle.js_law_right.specs.Unbound.{expression_unbound, suffixes_unbound}
 use Rattle.js_law_names.proofs.Worlds.{Shape}
-use Rattle.js_law_names.proofs.Agreeing.{Agrees, ◌onto◌}
+use Rattle.js_law_names.proofs.Agreeing.{Agrees, along, ◌onto◌}
 use Rattle.js_law_names.proofs.OfState.{the_base-agrees}
 use Rattle.js_law_names.proofs.OfObjects.{get-agrees, put-agrees}
 use Rattle.js_law_names.proofs.OfNames.{reads_name, writes_name}
@@ -36,7 +36,8 @@ last_same p (a_suffix (a_member q x) ss) = last_same q ss
 last_same p (a_suffix (an_index q e) ss) = last_same q ss
 last_same p (a_suffix (a_call q es) ss) = last_same q ss
 
-referred_same : (e : ExpressionTree) (key base : Value) → reference_unbound (referred e key base) ≡ referred (expression_unbound e) key base
+referred_same : (e : ExpressionTree) (key base : Value)
+    → reference_unbound (referred e key base) ≡ referred (expression_unbound e) key base
 referred_same (Suffixed p e ss) key base = ap (λ q. to_property q base (text_of key)) (sym (last_same p ss))
 referred_same e key base = refl
 
@@ -47,7 +48,8 @@ referred_right setting xs e key base r = tt
 
 module _ {setting : ℕ → Setting} where
   pub read-agrees : (z : RunState) (cx : Context) (xs : List Scope) → Shape z.names z.heap.scopes cx.scope xs
-      → (r : Reference) → ReferenceRight xs r → Agrees setting z (read by_names cx (reference_unbound r)) (read by_slots cx r)
+      → (r : Reference) → ReferenceRight xs r
+      → Agrees setting z (read by_names cx (reference_unbound r)) (read by_slots cx r)
   read-agrees z cx xs shape (to_name p x) r = reads_name cx xs x p shape r
   read-agrees z cx xs shape (to_property p base key) r = get-agrees base key p
 
@@ -62,7 +64,7 @@ module _ {setting : ℕ → Setting} where
     pub refers : {A : Type 0} (z : RunState) (cx : Context) (xs : List Scope) → Shape z.names z.heap.scopes cx.scope xs
         → (e : ExpressionTree) (f g : Reference → Does A) → EachInExpression (right setting) xs e
         → ((r : Reference) → ReferenceRight xs r → Agrees setting z (f (reference_unbound r)) (g r))
-        → Agrees setting z (reference by_names (bare functions) go cx (expression_unbound e) >>= f) (reference by_slots functions go' cx e >>= g)
+        → Agrees setting z (reference by_names (bare functions) go cx (expression_unbound e) >>= f)
+        (reference by_slots functions go' cx e >>= g)
     refers z cx xs shape e f g r h = agrees z (target_part cx e) (xs, shape, r) onto (λ key. the_base-agrees onto (λ base.
-        subst (λ x. Agrees setting z (f x) (g (referred e key base))) (referred_same e key base)
-        (h (referred e key base) (referred_right setting xs e key base r))))
+        along f (referred_same e key base) (h (referred e key base) (referred_right setting xs e key base r))))

@@ -1,5 +1,5 @@
 -- Each part at each depth, and each run, by names does what it does by slots.
-use Rattle.std.proofs.Common.{◌≡◌, ℕ, zero, suc, List, [], ◌∷◌, Bool, true, false, ◌||◌, Option, Some, None, refl, sym, ◌∙◌, ap, subst, true≢false}
+use Rattle.std.proofs.Common.{◌≡◌, ℕ, zero, suc, List, [], ◌∷◌, Bool, true, false, ◌||◌, Option, Some, None, refl, sym, ◌∙◌, ap, true≢false}
 use Rattle.std.specs.Prelude.{slice_get, codes}
 use Rattle.js_tree.specs.Tree.{FunctionTree, Statements}
 use Rattle.heap_values.specs.declared.ids.Kind.{Kind}
@@ -23,7 +23,7 @@ use Rattle.js_evaluation.specs.Evaluation.{node, evaluation, Entry, outer_scope,
 use Rattle.js_law_right.specs.Right.{Setting, FunctionRight, own_in, ProgramRight}
 use Rattle.js_law_right.specs.Unbound.{statements_unbound}
 use Rattle.js_law_names.proofs.Worlds.{Shape, later_self, Fine}
-use Rattle.js_law_names.proofs.Agreeing.{Agrees, fails, sees, ◌then◌}
+use Rattle.js_law_names.proofs.Agreeing.{Agrees, along, fails, sees, ◌then◌}
 use Rattle.js_law_names.proofs.OfState.{charges-agrees, test_text-agrees}
 use Rattle.js_law_names.proofs.OfParts.{bare, part_unbound, PartRight, WithinAgrees, part_stays}
 use Rattle.js_law_names.proofs.OfExpressions.{expression_node-agrees, target_node-agrees}
@@ -43,13 +43,13 @@ module _ {setting : ℕ → Setting} (functions : List FunctionTree)
   node-agrees go go' agrees z (load_part outer ss) r = load_node-agrees functions stand go go' agrees z outer ss outside r.0 r.1
 
   evaluation-agrees : (room : ℕ) (z : RunState) (part : Part) → PartRight setting z part
-      → Agrees setting z (evaluation by_names (bare functions) room (part_unbound part)) (evaluation by_slots functions room part)
+      → Agrees setting z (evaluation by_names (bare functions) room (part_unbound part))
+      (evaluation by_slots functions room part)
   unfolding evaluation
-  evaluation-agrees zero z part r =
-      subst (λ p. Agrees setting z (evaluation by_names (bare functions) zero (part_unbound part)) (charge p >> fault code.TooDeep p)) (sym (part_stays part))
-      (charges-agrees 1 (part_place (part_unbound part)) then fails code.TooDeep (part_place (part_unbound part)))
+  evaluation-agrees zero z part r = along (λ p. charge p >> fault code.TooDeep p) (part_stays part)
+      (charges-agrees 1 (part_place part) then fails code.TooDeep (part_place part))
   evaluation-agrees (suc room) z part r =
-      subst (λ p. Agrees setting z (charge p >> node by_names (bare functions) (evaluation by_names (bare functions) room) (part_unbound part)) (evaluation by_slots functions (suc room) part)) (part_stays part)
+      along (λ p. charge p >> node by_names (bare functions) (evaluation by_names (bare functions) room) (part_unbound part)) (part_stays part)
       (charges-agrees 1 (part_place part)
       then node-agrees (evaluation by_names (bare functions) room) (evaluation by_slots functions room) (evaluation-agrees room) z part r)
 
@@ -82,7 +82,8 @@ in_rest : (a b : Bool) → (a || b) ≡ false → b ≡ false
 in_rest true b h = absurd (true≢false h)
 in_rest false b h = h
 
-none_in : (os : List ObjectView) → functions_in os ≡ false → (id n : ℕ) (scope : ScopeId) → kind_in (slice_get os id) ≡ kind.Function n scope → ⊥
+none_in : (os : List ObjectView) → functions_in os ≡ false → (id n : ℕ) (scope : ScopeId)
+    → kind_in (slice_get os id) ≡ kind.Function n scope → ⊥
 unfolding functions_in
 none_in [] h id n scope e = cc
 none_in (o ∷ os) h zero n scope e = no_function o.kind n scope (in_first _ _ h) e

@@ -28,23 +28,27 @@ spent_leads : (h : HeapView) (n : ℕ) → Leads itself h (text_spent_of h n)
 spent_leads h n = leads_if itself h (nat_lt LONGEST_TEXT n) _ _ tt (leads_if itself h (nat_lt MOST_TEXT (h.units + n)) _ _ tt (record { scopes = refl; functions = λ i n scope e. e }))
 
 module _ {setting : ℕ → Setting} where
-  spends : {z : RunState} (n : ℕ) → Agrees setting z (changing (λ t. record t { fuel = t.fuel - n })) (changing (λ t. record t { fuel = t.fuel - n }))
+  spends : {z : RunState} (n : ℕ)
+      → Agrees setting z (changing (λ t. record t { fuel = t.fuel - n })) (changing (λ t. record t { fuel = t.fuel - n }))
   spends n = changes _ _ (λ t f. (record { kept = λ i x around h. h }, record { counts = f.counts; closures = f.closures }, refl))
 
   pub charges-agrees : {z : RunState} (n : ℕ) (place : Place) → Agrees setting z (charges n place) (charges n place)
   charges-agrees n place = sees (λ z _l _f. either (nat_lt z.fuel n) (fails fault_code.FuelSpent place) (spends n)) (λ z. refl)
 
-  pub made_now : {A : Type 0} {z : RunState} (place : Place) (result : Result (A × HeapView) HeapAnswer) → Leads beside z.heap result → Fine setting z
+  pub made_now : {A : Type 0} {z : RunState} (place : Place) (result : Result (A × HeapView) HeapAnswer)
+      → Leads beside z.heap result → Fine setting z
       → Now setting z (made place result) (made place result)
   made_now place (Ok x) h f = heap_now x.1 h f (gives x.0)
   made_now place (Err e) h f = halts_now _
 
-  pub changed_now : {z : RunState} (place : Place) (result : Result HeapView HeapAnswer) → Leads itself z.heap result → Fine setting z
+  pub changed_now : {z : RunState} (place : Place) (result : Result HeapView HeapAnswer) → Leads itself z.heap result
+      → Fine setting z
       → Now setting z (changed place result) (changed place result)
   changed_now place (Ok g) h f = only_heap_now g h f
   changed_now place (Err e) h f = halts_now _
 
-  pub make-agrees : {z : RunState} (k : Kind) (prototype : Option ObjectId) (place : Place) → ((n : ℕ) (scope : ScopeId) → k ≡ kind.Function n scope → ⊥)
+  pub make-agrees : {z : RunState} (k : Kind) (prototype : Option ObjectId) (place : Place)
+      → ((n : ℕ) (scope : ScopeId) → k ≡ kind.Function n scope → ⊥)
       → Agrees setting z (make k prototype place) (make k prototype place)
   make-agrees k prototype place other = sees_now (λ z _l f. made_now place (made_of z.heap k prototype) (made_leads z.heap k prototype other) f) (λ z. refl)
 
@@ -53,7 +57,8 @@ module _ {setting : ℕ → Setting} where
   define-agrees object name v listed deletable place =
       sees_now (λ z _l f. changed_now place (stored z.heap object name v (λ _. value_property v listed deletable)) (stored_steady z.heap object name v _) f) (λ z. refl)
 
-  pub write_slot-agrees : {z : RunState} (scope : ScopeId) (slot : ℕ) (v : Value) → Agrees setting z (write_slot scope slot v) (write_slot scope slot v)
+  pub write_slot-agrees : {z : RunState} (scope : ScopeId) (slot : ℕ) (v : Value)
+      → Agrees setting z (write_slot scope slot v) (write_slot scope slot v)
   write_slot-agrees scope slot v = changes _ _ (λ t f.
       let o = slice_get t.heap.scopes scope.0 in
       let l : Later t _ = record { kept = λ j x around h. written_kept t.names t.heap scope slot v j x around h } in (
@@ -68,7 +73,8 @@ module _ {setting : ℕ → Setting} where
   pub spend-agrees : {z : RunState} (text : List ℕ) (place : Place) → Agrees setting z (spend text place) (spend text place)
   spend-agrees text place = sees_now (λ z _l f. changed_now place (text_spent_of z.heap (length text)) (spent_leads z.heap (length text)) f) (λ z. refl)
 
-  pub test_text-agrees : {z : RunState} (text : List ℕ) (place : Place) → Agrees setting z (test_text text place) (test_text text place)
+  pub test_text-agrees : {z : RunState} (text : List ℕ) (place : Place)
+      → Agrees setting z (test_text text place) (test_text text place)
   test_text-agrees text place = either (nat_lt LONGEST_TEXT (length text)) (fails fault_code.StringTooLong place) (gives tt)
 
   pub set_base-agrees : {z : RunState} (v : Value) → Agrees setting z (set_base v) (set_base v)
@@ -77,7 +83,8 @@ module _ {setting : ℕ → Setting} where
   pub the_base-agrees : {z : RunState} → Agrees setting z the_base the_base
   the_base-agrees = sees (λ z _l _f. gives z.base) (λ z. refl)
 
-  pub throw-agrees : {A : Type 0} {z : RunState} (v : Value) (place : Place) → Agrees setting {A = A} z (throw v place) (throw v place)
+  pub throw-agrees : {A : Type 0} {z : RunState} (v : Value) (place : Place)
+      → Agrees setting {A = A} z (throw v place) (throw v place)
   throw-agrees v place = stops _
 
   pub throw_error-agrees : {A : Type 0} {z : RunState} (prototype : BuiltIn) (message : List ℕ) (place : Place)
@@ -86,5 +93,6 @@ module _ {setting : ℕ → Setting} where
       test_text-agrees message place then (make-agrees kind.Error (Some (built_in_object prototype)) place (λ n i e. cc) onto (λ error.
       define-agrees error (codes "message") (Text message) false true place then throw-agrees (Object error) place))
 
-  pub throw_type_error-agrees : {A : Type 0} {z : RunState} (message : List ℕ) (place : Place) → Agrees setting {A = A} z (throw_type_error message place) (throw_type_error message place)
+  pub throw_type_error-agrees : {A : Type 0} {z : RunState} (message : List ℕ) (place : Place)
+      → Agrees setting {A = A} z (throw_type_error message place) (throw_type_error message place)
   throw_type_error-agrees message place = throw_error-agrees built_in.TypeErrorPrototype message place

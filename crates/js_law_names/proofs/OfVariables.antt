@@ -25,7 +25,8 @@ mutual
   variables_of-bare (Declare p x f) = refl
   variables_of-bare (DeclareNumbered p x n) = refl
 
-  variables_of_otherwise-bare : (e : OptionalStatement) → variables_of_otherwise (otherwise_unbound e) ≡ variables_of_otherwise e
+  variables_of_otherwise-bare : (e : OptionalStatement)
+      → variables_of_otherwise (otherwise_unbound e) ≡ variables_of_otherwise e
   variables_of_otherwise-bare omitted = refl
   variables_of_otherwise-bare (given s) = variables_of-bare s
 
@@ -33,7 +34,8 @@ mutual
   variables_of_all-bare no_statement = refl
   variables_of_all-bare (a_statement s ss) = ap₂ ◌++◌ (variables_of-bare s) (variables_of_all-bare ss)
 
-  variables_of_declarations-bare : (e : Declarations) → variables_of_declarations (declarations_unbound e) ≡ variables_of_declarations e
+  variables_of_declarations-bare : (e : Declarations)
+      → variables_of_declarations (declarations_unbound e) ≡ variables_of_declarations e
   variables_of_declarations-bare no_declared = refl
   variables_of_declarations-bare (a_declared x o ds) = ap (λ r. x.name ∷ r) (variables_of_declarations-bare ds)
 

@@ -52,7 +52,8 @@ itself h = h
 abbrev pub beside : {A : Type 0} → A × HeapView → HeapView
 beside x = x.1
 
-pub leads_behind : {A : Type 0} (heap : A → HeapView) (h g : HeapView) (r : Result A HeapAnswer) → Steady h g → Leads heap g r → Leads heap h r
+pub leads_behind : {A : Type 0} (heap : A → HeapView) (h g : HeapView) (r : Result A HeapAnswer) → Steady h g
+    → Leads heap g r → Leads heap h r
 leads_behind heap h g (Ok a) s l = steady_then h g (heap a) s l
 leads_behind heap h g (Err e) s l = tt
 
@@ -61,7 +62,8 @@ pub leads_then : {A B : Type 0} (heap : A → HeapView) (next : B → HeapView) 
 leads_then heap next h (Ok a) f l w = leads_behind next h (heap a) (f a) l (w a)
 leads_then heap next h (Err e) f l w = tt
 
-pub leads_if : {A : Type 0} (heap : A → HeapView) (h : HeapView) (b : Bool) (r q : Result A HeapAnswer) → Leads heap h r → Leads heap h q → Leads heap h (if b then r else q)
+pub leads_if : {A : Type 0} (heap : A → HeapView) (h : HeapView) (b : Bool) (r q : Result A HeapAnswer) → Leads heap h r
+    → Leads heap h q → Leads heap h (if b then r else q)
 leads_if heap h true r q l m = l
 leads_if heap h false r q l m = m
 
@@ -80,7 +82,8 @@ pub set_steady : (h : HeapView) (at : ℕ) (o p : ObjectView) (cells : ℕ) → 
     → Steady h (record h { objects = slice_set h.objects at p; cells = cells })
 set_steady h at o p cells e k = record { scopes = refl; functions = λ i n scope f. sym (kinds_set h.objects at o p e k i) ∙ f }
 
-length_steady : (h : HeapView) (at : ℕ) (o : ObjectView) (v : Value) → slice_get h.objects at ≡ Some o → Leads itself h (length_stored h at o v)
+length_steady : (h : HeapView) (at : ℕ) (o : ObjectView) (v : Value) → slice_get h.objects at ≡ Some o
+    → Leads itself h (length_stored h at o v)
 length_steady h at o (value.Number (pos n)) e =
     leads_if itself h (nat_lt LONGEST_ARRAY n) _ _ tt (leads_if itself h (nat_lt MOST_CELLS (h.cells + (n - o.length))) _ _ tt (set_steady h at o (object_cut o n) _ e refl))
 length_steady h at o (value.Number (negsuc n)) e = tt
@@ -90,7 +93,8 @@ length_steady h at o (value.Bool b) e = tt
 length_steady h at o (value.Text t) e = tt
 length_steady h at o (value.Object id) e = tt
 
-at_steady : (h : HeapView) (at : ℕ) (o p : ObjectView) (r : Result ℕ HeapAnswer) → slice_get h.objects at ≡ Some o → p.kind ≡ o.kind → Leads itself h (stored_at h at p r)
+at_steady : (h : HeapView) (at : ℕ) (o p : ObjectView) (r : Result ℕ HeapAnswer) → slice_get h.objects at ≡ Some o
+    → p.kind ≡ o.kind → Leads itself h (stored_at h at p r)
 at_steady h at o p (Ok cost) e k = set_steady h at o p _ e k
 at_steady h at o p (Err x) e k = tt
 
@@ -101,14 +105,17 @@ in_steady h at (Some o) name v new e =
     leads_if itself h (is_length o.kind name) _ _ (length_steady h at o v e)
     (at_steady h at o (object_with o name (new (property_at o.properties name))) (property_cost h.cells o name) e refl)
 
-pub stored_steady : (h : HeapView) (id : ObjectId) (name : List ℕ) (v : Value) (new : Option Property → Property) → Leads itself h (stored h id name v new)
+pub stored_steady : (h : HeapView) (id : ObjectId) (name : List ℕ) (v : Value) (new : Option Property → Property)
+    → Leads itself h (stored h id name v new)
 stored_steady h id name v new = in_steady h id.0 (object_at h id) name v new refl
 
-without_kind : (o : ObjectView) (name : List ℕ) (b : Bool) (p : ObjectView) → p.kind ≡ o.kind → (if b then p else o).kind ≡ o.kind
+without_kind : (o : ObjectView) (name : List ℕ) (b : Bool) (p : ObjectView) → p.kind ≡ o.kind
+    → (if b then p else o).kind ≡ o.kind
 without_kind o name true p e = e
 without_kind o name false p e = refl
 
-deleted_in_steady : (h : HeapView) (id : ℕ) (o : Option ObjectView) (name : List ℕ) → slice_get h.objects id ≡ o → Steady h (deleted_in h id o name).1
+deleted_in_steady : (h : HeapView) (id : ℕ) (o : Option ObjectView) (name : List ℕ) → slice_get h.objects id ≡ o
+    → Steady h (deleted_in h id o name).1
 deleted_in_steady h id None name e = steady_self h
 deleted_in_steady h id (Some o) name e = set_steady h id o (object_without o name) h.cells e (without_kind o name (can_delete o name) _ refl)
 
@@ -131,15 +138,18 @@ module _ (array : ObjectId) where
   all_put_leads h at [] = steady_self h
   all_put_leads h at (v ∷ vs) = leads_then itself itself h _ _ (put_leads h (decimal at) v) (λ g. all_put_leads g (at + 1) vs)
 
-  put_or_deleted_leads : (h : HeapView) (name : List ℕ) (o : Option Value) → Leads itself h (def.put_or_deleted h array name o)
+  put_or_deleted_leads : (h : HeapView) (name : List ℕ) (o : Option Value)
+      → Leads itself h (def.put_or_deleted h array name o)
   put_or_deleted_leads h name (Some v) = put_leads h name v
   put_or_deleted_leads h name None = deleted_steady h array name
 
-steps_lead : (f : ℕ → HeapView → Result HeapView HeapAnswer) → ((k : ℕ) (h : HeapView) → Leads itself h (f k h)) → (count k : ℕ) (h : HeapView) → Leads itself h (steps f count k h)
+steps_lead : (f : ℕ → HeapView → Result HeapView HeapAnswer) → ((k : ℕ) (h : HeapView) → Leads itself h (f k h))
+    → (count k : ℕ) (h : HeapView) → Leads itself h (steps f count k h)
 steps_lead f w zero k h = steady_self h
 steps_lead f w (suc count) k h = leads_then itself itself h (f k h) _ (w k h) (λ g. steps_lead f w count (k + 1) g)
 
-steps_down_lead : (f : ℕ → HeapView → Result HeapView HeapAnswer) → ((k : ℕ) (h : HeapView) → Leads itself h (f k h)) → (n : ℕ) (h : HeapView) → Leads itself h (steps_down f n h)
+steps_down_lead : (f : ℕ → HeapView → Result HeapView HeapAnswer) → ((k : ℕ) (h : HeapView) → Leads itself h (f k h))
+    → (n : ℕ) (h : HeapView) → Leads itself h (steps_down f n h)
 steps_down_lead f w zero h = steady_self h
 steps_down_lead f w (suc n) h = leads_then itself itself h (f n h) _ (w n h) (λ g. steps_down_lead f w n g)
 
@@ -171,7 +181,8 @@ module _ (array : ObjectId) where
   unshift_leads h vs = leads_then itself beside h _ _ (backward_leads h 0 (length vs) (def.size_of h array)) (λ g.
       leads_then itself beside g _ _ (all_put_leads array g 0 vs) (λ f. with_length_leads f _))
 
-  exchanged_leads : (h : HeapView) (low high : List ℕ) (a b : Option Value) → Leads itself h (order.exchanged h array low high a b)
+  exchanged_leads : (h : HeapView) (low high : List ℕ) (a b : Option Value)
+      → Leads itself h (order.exchanged h array low high a b)
   exchanged_leads h low high (Some a) (Some b) = leads_then itself itself h _ _ (put_leads array h low b) (λ g. put_leads array g high a)
   exchanged_leads h low high None (Some b) = leads_then itself itself h _ _ (put_leads array h low b) (λ g. deleted_steady g array high)
   exchanged_leads h low high (Some a) None = leads_behind itself h (def.without h array low) _ (deleted_steady h array low) (put_leads array (def.without h array low) high a)
@@ -188,37 +199,45 @@ module _ (array : ObjectId) where
       (leads_then itself itself h _ _ (forward_leads h (start + count) (start + more) (n - start - count)) (λ g. all_deleted_leads g (n - count + more) (count - more)))
       (leads_if itself h (nat_lt count more) _ _ (backward_leads h _ _ _) (steady_self h))
 
-  replaced_leads : (h : HeapView) (n start count : ℕ) (vs : List Value) → Leads itself h (splicing.replaced h array n start count vs)
+  replaced_leads : (h : HeapView) (n start count : ℕ) (vs : List Value)
+      → Leads itself h (splicing.replaced h array n start count vs)
   replaced_leads h n start count vs = leads_then itself itself h _ _ (room_leads h n start count (length vs)) (λ g.
       leads_then itself itself g _ _ (all_put_leads array g start vs) (λ f. length_leads array f _))
 
 -- a new object that is no function
-made_kind : (objects : List ObjectView) (o : ObjectView) (i : ℕ) (n : ℕ) (scope : ScopeId) → (o.kind ≡ kind.Function n scope → ⊥)
-    → kind_in (slice_get (objects ++ o ∷ []) i) ≡ kind.Function n scope → kind_in (slice_get objects i) ≡ kind.Function n scope
+made_kind : (objects : List ObjectView) (o : ObjectView) (i : ℕ) (n : ℕ) (scope : ScopeId)
+    → (o.kind ≡ kind.Function n scope → ⊥)
+    → kind_in (slice_get (objects ++ o ∷ []) i) ≡ kind.Function n scope
+    → kind_in (slice_get objects i) ≡ kind.Function n scope
 made_kind [] o zero n scope not e = absurd (not e)
 made_kind [] o (suc i) n scope not e = e
 made_kind (p ∷ objects) o zero n scope not e = e
 made_kind (p ∷ objects) o (suc i) n scope not e = made_kind objects o i n scope not e
 
-pub made_leads : (h : HeapView) (k : Kind) (prototype : Option ObjectId) → ((n : ℕ) (scope : ScopeId) → k ≡ kind.Function n scope → ⊥) → Leads beside h (made_of h k prototype)
+pub made_leads : (h : HeapView) (k : Kind) (prototype : Option ObjectId)
+    → ((n : ℕ) (scope : ScopeId) → k ≡ kind.Function n scope → ⊥) → Leads beside h (made_of h k prototype)
 made_leads h k prototype not = leads_if beside h (nat_le MOST_CELLS h.cells) _ _ tt
     (record { scopes = refl; functions = λ i n scope e. made_kind h.objects (empty_object k (older_of prototype (length h.objects))) i n scope (not n scope) e })
 
 array_leads : (h : HeapView) → Leads beside h (def.array_made h)
 array_leads h = made_leads h kind.Array (Some def.array_prototype) (λ n scope e. cc)
 
-defined_if_leads : (into : ObjectId) (h : HeapView) (name : List ℕ) (o : Option Value) → Leads itself h (parts.defined_if h into name o)
+defined_if_leads : (into : ObjectId) (h : HeapView) (name : List ℕ) (o : Option Value)
+    → Leads itself h (parts.defined_if h into name o)
 defined_if_leads into h name (Some v) = stored_steady h into name v _
 defined_if_leads into h name None = steady_self h
 
-copied_leads : (array into : ObjectId) (h : HeapView) (from to count : ℕ) → Leads itself h (parts.copied h array from into to count)
+copied_leads : (array into : ObjectId) (h : HeapView) (from to count : ℕ)
+    → Leads itself h (parts.copied h array from into to count)
 copied_leads array into h from to count = steps_lead (parts.copy_step array from into to) (λ k g. defined_if_leads into g _ _) count 0 h
 
-appended_leads : (into : ObjectId) (h : HeapView) (at : ℕ) (v : Value) (o : Option ObjectId) → Leads beside h (parts.appended_as h into at v o)
+appended_leads : (into : ObjectId) (h : HeapView) (at : ℕ) (v : Value) (o : Option ObjectId)
+    → Leads beside h (parts.appended_as h into at v o)
 appended_leads into h at v None = leads_then itself beside h _ _ (stored_steady h into (decimal at) v _) (λ g. steady_self g)
 appended_leads into h at v (Some array) = leads_then itself beside h _ _ (copied_leads array into h 0 at (def.size_of h array)) (λ g. steady_self g)
 
-all_appended_leads : (into : ObjectId) (h : HeapView) (at : ℕ) (vs : List Value) → Leads itself h (parts.all_appended h into at vs)
+all_appended_leads : (into : ObjectId) (h : HeapView) (at : ℕ) (vs : List Value)
+    → Leads itself h (parts.all_appended h into at vs)
 all_appended_leads into h at [] = steady_self h
 all_appended_leads into h at (v ∷ vs) = leads_then beside itself h _ _ (appended_leads into h at v _) (λ p. all_appended_leads into p.1 p.0 vs)
 
@@ -228,11 +247,13 @@ concat_leads array h vs = leads_then beside beside h _ _ (array_leads h) (λ mad
 sliced_leads : (array : ObjectId) (h : HeapView) (from to : ℕ) → Leads beside h (parts.sliced h array from to)
 sliced_leads array h from to = leads_then beside beside h _ _ (array_leads h) (λ made. giving_leads made.1 _ _ (copied_leads array made.0 made.1 from 0 (to - from)))
 
-spliced_leads : (array : ObjectId) (h : HeapView) (n start count : ℕ) (vs : List Value) → Leads beside h (splicing.spliced h array n start count vs)
+spliced_leads : (array : ObjectId) (h : HeapView) (n start count : ℕ) (vs : List Value)
+    → Leads beside h (splicing.spliced h array n start count vs)
 spliced_leads array h n start count vs = leads_then beside beside h _ _ (array_leads h) (λ made.
     leads_then itself beside made.1 _ _ (copied_leads array made.0 made.1 start 0 count) (λ g. giving_leads g _ _ (replaced_leads array g n start count vs)))
 
-pub array_result_leads : (m : ArrayMethod) (h : HeapView) (array : ObjectId) (vs : List Value) → Leads beside h (array_result m h array vs)
+pub array_result_leads : (m : ArrayMethod) (h : HeapView) (array : ObjectId) (vs : List Value)
+    → Leads beside h (array_result m h array vs)
 array_result_leads method.Push h array vs = push_leads array h vs
 array_result_leads method.Pop h array vs = popped_leads array h (def.size_of h array)
 array_result_leads method.Shift h array vs = shifted_leads array h (def.size_of h array)

@@ -1,5 +1,5 @@
 -- The scopes of a run by names: what each change of the state keeps of them.
-use Rattle.std.proofs.Common.{◌≡◌, ℕ, zero, suc, ◌+◌, ◌<◌, List, [], ◌∷◌, ◌++◌, length, Option, Some, None, refl, sym, ◌∙◌, ap, subst, arith}
+use Rattle.std.proofs.Common.{◌≡◌, ℕ, zero, suc, ◌<◌, List, [], ◌∷◌, ◌++◌, length, Option, Some, None, refl, sym, ◌∙◌, ap, subst, arith}
 use Rattle.std.specs.Prelude.{slice_get, slice_set}
 use Rattle.js_binding.specs.Scopes.{Scope, named}
 use Rattle.heap_values.specs.declared.ids.Kind.{Kind}
@@ -76,7 +76,8 @@ new_kept names scopes y v i x around h = record {
 }
 
 pub new_is : (names : List Scope) (scopes : List ScopeView) (y : Scope) (v : ScopeView) (around : Option ScopeId)
-    → length names ≡ length scopes → v.parent ≡ around → IsScope (names ++ y ∷ []) (scopes ++ v ∷ []) (record { 0 = length scopes }) y around
+    → length names ≡ length scopes → v.parent ≡ around
+    → IsScope (names ++ y ∷ []) (scopes ++ v ∷ []) (record { 0 = length scopes }) y around
 new_is names scopes y v around counts parent = record {
   has_names = subst (λ n. slice_get (names ++ y ∷ []) n ≡ Some y) counts (get_behind names y);
   view = v;
@@ -112,16 +113,19 @@ around_with h j None e slot v i around a = a
 around_with h j (Some w) e slot v i around a = around_set h.scopes j _ (w, e, refl) i around a
 
 pub written_kept : (names : List Scope) (h : HeapView) (j : ScopeId) (slot : ℕ) (v : Value) (i : ScopeId) (x : Scope) (around : Option ScopeId)
-    → IsScope names h.scopes i x around → IsScope names (slot_written_in h j.0 (slice_get h.scopes j.0) slot v).scopes i x around
+    → IsScope names h.scopes i x around
+    → IsScope names (slot_written_in h j.0 (slice_get h.scopes j.0) slot v).scopes i x around
 written_kept names h j slot v i x around k =
     let a = around_with h j.0 (slice_get h.scopes j.0) refl slot v i.0 around (k.view, k.there, k.parent) in
     record { has_names = k.has_names; view = a.0; there = a.1; parent = a.2 }
 
-pub length_with : (h : HeapView) (j : ℕ) (o : Option ScopeView) (slot : ℕ) (v : Value) → length (slot_written_in h j o slot v).scopes ≡ length h.scopes
+pub length_with : (h : HeapView) (j : ℕ) (o : Option ScopeView) (slot : ℕ) (v : Value)
+    → length (slot_written_in h j o slot v).scopes ≡ length h.scopes
 length_with h j None slot v = refl
 length_with h j (Some w) slot v = length_set h.scopes j _
 
-pub kinds_with : (h : HeapView) (j : ℕ) (o : Option ScopeView) (slot : ℕ) (v : Value) → (slot_written_in h j o slot v).objects ≡ h.objects
+pub kinds_with : (h : HeapView) (j : ℕ) (o : Option ScopeView) (slot : ℕ) (v : Value)
+    → (slot_written_in h j o slot v).objects ≡ h.objects
 kinds_with h j None slot v = refl
 kinds_with h j (Some w) slot v = refl
 
@@ -130,7 +134,8 @@ kinds_with h j (Some w) slot v = refl
 pub steady_later : (s : RunState) (g : HeapView) → Steady s.heap g → Later s (record s { heap = g })
 steady_later s g h = record { kept = λ i x around k. subst (λ scopes. IsScope s.names scopes i x around) (sym h.scopes) k }
 
-pub steady_fine : (setting : ℕ → Setting) (s : RunState) (g : HeapView) → Steady s.heap g → Fine setting s → Fine setting (record s { heap = g })
+pub steady_fine : (setting : ℕ → Setting) (s : RunState) (g : HeapView) → Steady s.heap g → Fine setting s
+    → Fine setting (record s { heap = g })
 steady_fine setting s g h f = record {
   counts = f.counts ∙ ap length (sym h.scopes);
   closures = λ id n scope e. shape_later s (record s { heap = g }) scope (setting n).around (steady_later s g h) (f.closures id n scope (h.functions id n scope e));
@@ -138,7 +143,8 @@ steady_fine setting s g h f = record {
 
 -- ---- a new object
 
-pub kind_new : (P : Kind → Type 0) → P Plain → (o : ObjectView) → P o.kind → (objects : List ObjectView) → ((id : ℕ) → P (kind_in (slice_get objects id)))
+pub kind_new : (P : Kind → Type 0) → P Plain → (o : ObjectView) → P o.kind → (objects : List ObjectView)
+    → ((id : ℕ) → P (kind_in (slice_get objects id)))
     → (id : ℕ) → P (kind_in (slice_get (objects ++ o ∷ []) id))
 kind_new P plain o new [] old zero = new
 kind_new P plain o new [] old (suc id) = plain
