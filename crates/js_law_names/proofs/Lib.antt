@@ -1,0 +1,20 @@
+mod Steady
+mod Worlds
+mod Agreeing
+mod OfState
+mod OfObjects
+mod OfHanded
+mod OfConversions
+mod OfNativeWork
+mod OfPacNatives
+mod OfNatives
+mod OfNames
+mod OfParts
+mod OfReferences
+mod OfExpressions
+mod OfStatements
+mod OfVariables
+mod OfEntries
+mod OfRuns
+pub mod ReadRuns
+pub mod OfLookUps

@@ -1,0 +1,85 @@
+-- What is read where a name stands is what a look-up finds.
+use Rattle.std.proofs.Common.{◌≡◌, ℕ, zero, suc, ◌+◌, List, [], ◌∷◌, length, Bool, true, false, if◌then◌else◌, Option, Some, None, refl, ◌∙◌, ap, arith, add-zero}
+use Rattle.std.specs.Prelude.{slice_get, option_map}
+use Rattle.std.specs.Str.{bytes_eq}
+use Rattle.js_tree.specs.declared.place.Place.{Place}
+use Rattle.js_binding.specs.Scopes.{Scope, named, itself, place_of}
+use Rattle.heap_values.specs.declared.ids.ScopeId.{ScopeId}
+use Rattle.heap_values.specs.declared.value.Value.{Value}
+use Rattle.heap_values.specs.Views.{ScopeView, HeapView}
+use Rattle.object_heap.specs.Heap.{scope_at, parent_in, slot_at, slot_of}
+use Rattle.run_trees.specs.Runs.{After}
+use Rattle.js_evaluation.specs.State.{RunState, RunEnd, Stop}
+use Rattle.js_evaluation.specs.ByNames.{Standing, in_scope, in_own, in_global, place_or, found_in, found_from, standing, read_at}
+use Rattle.js_law_names.specs.LookUps.{value_or, look_up, pairs_from, pairs_of, environment_from, environment_of, found_or_global, ReadsAreLookUps}
+
+-- ---- one scope
+
+-- the value so many slots further, or another
+abbrev value_behind : Option ScopeView → ℕ → Option ℕ → Option Value → Option Value
+value_behind view slot None other = other
+value_behind view slot (Some n) other = Some (slot_at view (slot + n))
+
+next_slot : (view : Option ScopeView) (slot : ℕ) (o : Option ℕ) (other : Option Value)
+    → value_behind view slot (option_map suc o) other ≡ value_behind view (suc slot) o other
+next_slot view slot None other = refl
+next_slot view slot (Some n) other = let e : slot + suc n ≡ suc slot + n = omega arith in ap (λ k. Some (slot_at view k)) e
+
+by_test : (t : Bool) (view : Option ScopeView) (slot : ℕ) (o : Option ℕ) (other rest : Option Value)
+    → value_behind view (suc slot) o other ≡ rest
+    → value_behind view slot (if t then Some 0 else option_map suc o) other ≡ (if t then Some (slot_at view slot) else rest)
+by_test true view slot o other rest h = ap (λ k. Some (slot_at view k)) (add-zero slot)
+by_test false view slot o other rest h = next_slot view slot o other ∙ h
+
+places : (view : Option ScopeView) (slot : ℕ) (x : List ℕ) (names : List (List ℕ)) (other : Option Value)
+    → value_behind view slot (place_of x names) other ≡ value_or other x (pairs_from view slot names)
+places view slot x [] other = refl
+places view slot x (y ∷ ys) other = by_test (bytes_eq x y) view slot (place_of x ys) other _ (places view (suc slot) x ys other)
+
+-- ---- the scopes of a heap
+
+-- the value where a name stands; none where it is global
+abbrev value_at : HeapView → Standing → Option Value
+value_at h (in_scope i slot) = Some (slot_of h i slot)
+value_at h (in_own i) = Some (slot_of h i 0)
+value_at h in_global = None
+
+module _ (names : List Scope) (h : HeapView) where
+  placed : (i : ScopeId) (o : Option ℕ) (further : Standing)
+      → value_at h (place_or i o further) ≡ value_behind (scope_at h i) 0 o (value_at h further)
+  placed i None further = refl
+  placed i (Some n) further = let e : n ≡ 0 + n = omega arith in ap (λ k. Some (slot_at (scope_at h i) k)) e
+
+  own_placed : (t : Bool) (i : ScopeId) (further : Standing)
+      → value_at h (if t then in_own i else further) ≡ (if t then Some (slot_at (scope_at h i) 0) else value_at h further)
+  own_placed true i further = refl
+  own_placed false i further = refl
+
+  in_one : (i : ScopeId) (o : Option Scope) (x : List ℕ) (further : Standing)
+      → value_at h (found_in i o x further) ≡ value_or (value_at h further) x (pairs_of (scope_at h i) o)
+  in_one i None x further = refl
+  in_one i (Some (named ys)) x further = placed i (place_of x ys) further ∙ places (scope_at h i) 0 x ys (value_at h further)
+  in_one i (Some (itself y)) x further = own_placed (bytes_eq x y) i further
+
+  from_one : (n : ℕ) (o : Option ScopeId) (x : List ℕ)
+      → value_at h (found_from n names h o x) ≡ look_up x (environment_from n names h o)
+  from_one zero o x = refl
+  from_one (suc n) None x = refl
+  from_one (suc n) (Some i) x = in_one i (slice_get names i.0) x _
+      ∙ ap (λ v. value_or v x (pairs_of (scope_at h i) (slice_get names i.0))) (from_one n (parent_in (scope_at h i)) x)
+
+-- ---- reads
+
+module _ (x : List ℕ) (place : Place) (after : After RunState Stop RunEnd Value) (s : RunState) where
+  reads_value : (at : Standing) → read_at x place at after s ≡ found_or_global (value_at s.heap at) x place after s
+  reads_value (in_scope i slot) = refl
+  reads_value (in_own i) = refl
+  reads_value in_global = refl
+
+  reads_look_up : (scope : ScopeId)
+      → read_at x place (standing s scope x) after s ≡ found_or_global (look_up x (environment_of s scope)) x place after s
+  reads_look_up scope = reads_value (standing s scope x)
+      ∙ ap (λ o. found_or_global o x place after s) (from_one s.names s.heap (length s.names) (Some scope) x)
+
+pub reads_are_look_ups : ReadsAreLookUps
+reads_are_look_ups cx x place = λ i after s. reads_look_up x.name place after s cx.scope i

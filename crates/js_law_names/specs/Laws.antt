@@ -1,0 +1,19 @@
+-- A run by slots is the run by names.
+use Rattle.std.specs.Prelude.{◌≡◌, ℕ, List, Ok}
+use Rattle.js_tree.specs.Tree.{StatementTree}
+use Rattle.js_grammar.specs.Statements.{script_of_text}
+use Rattle.js_binding.specs.Resolved.{resolved}
+use Rattle.js_evaluation.specs.Evaluation.{Entry, run_by_names, run_tree}
+use Rattle.js_law_right.specs.Anonymous.{DeclaredAreAnonymous}
+
+-- The run of a script by its names is the run of the resolved script, in which each name has its slot. They are one
+-- tree: they ask and tell the same, in the same order, and with the same replies they come to the same end, with the
+-- same heap and fuel.
+abbrev pub NamesAreSlots : Type 0
+NamesAreSlots = (script : List StatementTree) (entry : Entry) → DeclaredAreAnonymous script
+    → run_by_names script entry ≡ run_tree (resolved script).0 (resolved script).1 entry
+
+-- So is the run of each script that is read.
+abbrev pub ReadsRunByNames : Type 0
+ReadsRunByNames = (us : List ℕ) (script : List StatementTree) (entry : Entry) → script_of_text us ≡ Ok script
+    → run_by_names script entry ≡ run_tree (resolved script).0 (resolved script).1 entry

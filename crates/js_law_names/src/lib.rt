@@ -1,0 +1,12 @@
+//! The laws of names: a run by slots is the run by names, and what is read by a name is what a look-up along scopes
+//! finds.
+//!
+//! `specs/Laws.antt` states the first on the definition of evaluation in js_evaluation, of which each rule stands over
+//! how a run has its scopes; `specs/LookUps.antt` states the other on scopes that are lists of pairs of a name and a
+//! value. The crate has no code that runs. It stands on js_law_right, by which each name of a resolved script has the
+//! slot where it is found, and on js_law_read, by which that holds of each script that is read.
+#![tactic(auto)]
+
+mod laws;
+
+pub use laws::{names_are_slots, reads_are_look_ups, reads_run_by_names};
