@@ -45,11 +45,11 @@ module _ {scoping : Scoping} (words : WordsEnd scoping) (functions : List Functi
       evaluation-ends MOST_OPEN (load_part outer_scope ss)
       then reads (λ s. called_for-ends entry (entry_of s.heap (found_of s.heap global_id (codes "FindProxyForURL"))))
 
-pub asking : {scoping : Scoping} → WordsEnd scoping → RunsAskLookupNames scoping
+pub tree_by-asks : {scoping : Scoping} → WordsEnd scoping → RunsAskLookupNames scoping
 unfolding AsksLookupNames
-asking {scoping} words ss functions entry =
+tree_by-asks {scoping} words ss functions entry =
     (runs-end words functions entry ss).asks _ (λ result state. tt) (first_state scoping entry)
 
 -- the run of a program whose names have their slots
 pub runs-ask : RunsAskLookupNames by_slots
-runs-ask = asking by_slots-end
+runs-ask = tree_by-asks by_slots-end
