@@ -18,7 +18,8 @@ EvaluationHasOneEnd scoping =
 -- And so does a run of a script, before what is made of its end.
 abbrev pub RunsHaveOneEnd : Scoping → Type 0
 RunsHaveOneEnd scoping =
-    (ss : Statements) (functions : List FunctionTree) (entry : Entry) → HasOneEnd (script_run scoping functions entry ss)
+    (ss : Statements) (functions : List FunctionTree) (entry : Entry)
+    → HasOneEnd (script_run scoping functions entry ss)
 
 -- A run asks for lookup names alone, whatever it is replied.
 unfoldable pub AsksLookupNames : {End : Type 0} → RunTree End → Type 0
