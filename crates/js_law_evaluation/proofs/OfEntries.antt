@@ -21,7 +21,7 @@ use Rattle.js_evaluation.specs.State.{built_in_object, global_object}
 use Rattle.js_evaluation.specs.Objects.{Context, arity_of, global_id}
 use Rattle.js_evaluation.specs.NativeTable.{native_of}
 use Rattle.js_evaluation.specs.Scoping.{Scoping}
-use Rattle.js_evaluation.specs.Parts.{Part, call_part, Within, call}
+use Rattle.js_evaluation.specs.Parts.{Part, call_part, Within, calls}
 use Rattle.js_evaluation.specs.Statements.{statements_from}
 use Rattle.js_evaluation.specs.Entries as def
 use Rattle.js_law_evaluation.proofs.OfState.{Ends, gives, reads, ◌onto◌, ◌then◌, either, returns, make-ends, define-ends, write_slot-ends, throw_type_error-ends}
@@ -31,7 +31,26 @@ use Rattle.js_law_evaluation.proofs.OfConversions.{CallsEnd}
 use Rattle.js_law_evaluation.proofs.OfNatives.{native_outcome-ends}
 use Rattle.js_law_evaluation.proofs.OfStatements.{statements_from-ends}
 
--- ---- the object of the arguments
+-- ---- the names of a function's scope
+
+function_object-ends : (functions : List FunctionTree) (n : ℕ) (scope : ScopeId) (p : Place)
+    → Ends (def.function_object functions n scope p)
+function_object-ends functions n scope p = closure-ends n (arity_of (slice_get functions n)) scope p
+
+parameters_from-ends : {scoping : Scoping} → WordsEnd scoping → (cx : Context) (p : Place) (xs : List BoundName) (vs : List Value)
+    → Ends (def.parameters_from scoping cx p xs vs)
+parameters_from-ends words cx p [] vs = gives tt
+parameters_from-ends words cx p (x ∷ xs) [] =
+    words.write_name cx x value.Undefined p then parameters_from-ends words cx p xs []
+parameters_from-ends words cx p (x ∷ xs) (v ∷ vs) = words.write_name cx x v p then parameters_from-ends words cx p xs vs
+
+functions_from-ends : {scoping : Scoping} → WordsEnd scoping → (functions : List FunctionTree) (cx : Context) (p : Place) (ss : Statements)
+    → Ends (def.functions_from scoping functions cx p ss)
+functions_from-ends words functions cx p no_statement = gives tt
+functions_from-ends words functions cx p (a_statement (DeclareNumbered q x n) ss) =
+    function_object-ends functions n cx.scope p onto (λ f. words.write_name cx x f p)
+    then functions_from-ends words functions cx p ss
+functions_from-ends words functions cx p (a_statement s ss) = functions_from-ends words functions cx p ss
 
 arguments_object-ends : (p : Place) (vs : List Value) → Ends (def.arguments_object p vs)
 arguments_object-ends p vs =
@@ -48,12 +67,6 @@ arguments_if-ends : (b : Bool) (scope : ScopeId) (p : Place) (names : List (List
 arguments_if-ends true scope p names vs = gives tt
 arguments_if-ends false scope p names vs = arguments_at-ends scope p vs (place_of arguments_name names)
 
--- ---- function objects
-
-function_object-ends : (functions : List FunctionTree) (n : ℕ) (scope : ScopeId) (p : Place)
-    → Ends (def.function_object functions n scope p)
-function_object-ends functions n scope p = closure-ends n (arity_of (slice_get functions n)) scope p
-
 -- ---- the names of a script
 
 declared_over-ends : (old : Option Property) (name : List ℕ) (f : Value) (p : Place) → Ends (def.declared_over old name f p)
@@ -63,6 +76,14 @@ declared_over-ends (Some old) name f p = either (def.gives_way old)
 
 declare_function-ends : (name : List ℕ) (f : Value) (p : Place) → Ends (def.declare_function name f p)
 declare_function-ends name f p = reads (λ s. declared_over-ends (def.own_property (object_at s.heap global_id) name) name f p)
+
+global_functions-ends : (functions : List FunctionTree) (cx : Context) (p : Place) (ss : Statements)
+    → Ends (def.global_functions functions cx p ss)
+global_functions-ends functions cx p no_statement = gives tt
+global_functions-ends functions cx p (a_statement (DeclareNumbered q x n) ss) =
+    function_object-ends functions n cx.scope p onto (λ f. declare_function-ends x.name f p)
+    then global_functions-ends functions cx p ss
+global_functions-ends functions cx p (a_statement s ss) = global_functions-ends functions cx p ss
 
 declared_unless-ends : (f : Found) (name : List ℕ) (p : Place) → Ends (def.declared_unless f name p)
 declared_unless-ends found.Absent name p = define-ends global_id name value.Undefined true false p
@@ -77,26 +98,11 @@ module _ {scoping : Scoping} (words : WordsEnd scoping) (functions : List Functi
     {go : Within} (ends : (part : Part) → Ends (go part)) where
   -- ---- the parts within
 
-  call-ends : CallsEnd (call go)
-  call-ends f this vs p = ends (call_part f this vs p)
+  calls-end : CallsEnd (calls go)
+  calls-end f this vs p = ends (call_part f this vs p)
 
   body-ends : (cx : Context) (ss : Statements) → Ends (statements_from scoping functions go cx ss)
   body-ends cx ss = statements_from-ends words functions ends cx ss
-
-  -- ---- the names of a function's scope
-
-  parameters_from-ends : (cx : Context) (p : Place) (xs : List BoundName) (vs : List Value)
-      → Ends (def.parameters_from scoping functions go cx p xs vs)
-  parameters_from-ends cx p [] vs = gives tt
-  parameters_from-ends cx p (x ∷ xs) [] = words.write_name cx x value.Undefined p then parameters_from-ends cx p xs []
-  parameters_from-ends cx p (x ∷ xs) (v ∷ vs) = words.write_name cx x v p then parameters_from-ends cx p xs vs
-
-  functions_from-ends : (cx : Context) (p : Place) (ss : Statements)
-      → Ends (def.functions_from scoping functions go cx p ss)
-  functions_from-ends cx p no_statement = gives tt
-  functions_from-ends cx p (a_statement (DeclareNumbered q x n) ss) =
-      function_object-ends functions n cx.scope p onto (λ f. words.write_name cx x f p) then functions_from-ends cx p ss
-  functions_from-ends cx p (a_statement s ss) = functions_from-ends cx p ss
 
   -- ---- a function
 
@@ -105,7 +111,7 @@ module _ {scoping : Scoping} (words : WordsEnd scoping) (functions : List Functi
       → Ends (def.entered_in scoping functions go scope this vs p parameters names ss)
   entered_in-ends scope this vs p parameters names ss =
       let cx : Context = record { scope = scope; this = this } in
-      parameters_from-ends cx p parameters vs then functions_from-ends cx p ss
+      parameters_from-ends words cx p parameters vs then functions_from-ends words functions cx p ss
       then arguments_if-ends (def.has_own_arguments parameters ss) scope p names vs
       then returns value.Undefined (statements_from scoping functions go cx ss) (body-ends cx ss)
 
@@ -124,7 +130,7 @@ module _ {scoping : Scoping} (words : WordsEnd scoping) (functions : List Functi
   called_by-ends : (k : Kind) (this : Value) (vs : List Value) (p : Place)
       → Ends (def.called_by scoping functions go k this vs p)
   called_by-ends (kind.Function n around) this vs p = entered-ends around this vs p (slice_get functions n)
-  called_by-ends (kind.Native n) this vs p = native_outcome-ends (call go) call-ends (native_of n) this vs p
+  called_by-ends (kind.Native n) this vs p = native_outcome-ends (calls go) calls-end (native_of n) this vs p
   called_by-ends k this vs p = gives value.Undefined
 
   pub call_node-ends : (f : ObjectId) (this : Value) (vs : List Value) (p : Place)
@@ -141,7 +147,7 @@ module _ {scoping : Scoping} (words : WordsEnd scoping) (functions : List Functi
       make-ends kind.Plain (Some (def.made_from prototype)) p onto (λ made.
       entered-ends around (value.Object made) vs p (slice_get functions n)
       onto (λ v. gives (def.object_or (value.Object made) v))))
-  constructed_by-ends (kind.Native n) f vs p = native_outcome-ends (call go) call-ends (native_of n) value.Undefined vs p
+  constructed_by-ends (kind.Native n) f vs p = native_outcome-ends (calls go) calls-end (native_of n) value.Undefined vs p
   constructed_by-ends k f vs p = gives value.Undefined
 
   pub construct_node-ends : (f : ObjectId) (vs : List Value) (p : Place)
@@ -151,16 +157,9 @@ module _ {scoping : Scoping} (words : WordsEnd scoping) (functions : List Functi
 
   -- ---- the load of a script
 
-  global_functions-ends : (cx : Context) (p : Place) (ss : Statements)
-      → Ends (def.global_functions scoping functions go cx p ss)
-  global_functions-ends cx p no_statement = gives tt
-  global_functions-ends cx p (a_statement (DeclareNumbered q x n) ss) =
-      function_object-ends functions n cx.scope p onto (λ f. declare_function-ends x.name f p) then global_functions-ends cx p ss
-  global_functions-ends cx p (a_statement s ss) = global_functions-ends cx p ss
-
   pub load_node-ends : (outer : ScopeId) (ss : Statements) (p : Place)
       → Ends (def.load_node scoping functions go outer ss p)
   unfolding def.load_node
   load_node-ends outer ss p =
       let cx : Context = record { scope = outer; this = global_object } in
-      global_functions-ends cx p ss then global_variables-ends p (variables_of_all ss) then body-ends cx ss
+      global_functions-ends functions cx p ss then global_variables-ends p (variables_of_all ss) then body-ends cx ss

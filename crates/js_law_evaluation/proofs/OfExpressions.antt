@@ -24,7 +24,7 @@ use Rattle.js_convert.specs.Texts.{text_of}
 use Rattle.js_evaluation.specs.State.{built_in_object, global_object}
 use Rattle.js_evaluation.specs.Objects.{Context, arity_of}
 use Rattle.js_evaluation.specs.Scoping.{Scoping}
-use Rattle.js_evaluation.specs.Parts.{Part, expression_part, target_part, call_part, construct_part, Within, visit, visit_target, call, construct, suffix_place}
+use Rattle.js_evaluation.specs.Parts.{Part, expression_part, target_part, call_part, construct_part, Within, visit, visit_target, calls, construct, suffix_place}
 use Rattle.js_evaluation.specs.Conversions.{text_methods, assigned_by, type_text}
 use Rattle.js_evaluation.specs.NativeTable.{constructs, native_of}
 use Rattle.js_evaluation.specs.Expressions as def
@@ -69,8 +69,8 @@ module _ {scoping : Scoping} (words : WordsEnd scoping) (functions : List Functi
   target-ends : (cx : Context) (e : ExpressionTree) → Ends (visit_target go cx e)
   target-ends cx e = ends (target_part cx e)
 
-  call-ends : CallsEnd (call go)
-  call-ends f this vs p = ends (call_part f this vs p)
+  calls-end : CallsEnd (calls go)
+  calls-end f this vs p = ends (call_part f this vs p)
 
   construct-ends : (f : ObjectId) (vs : List Value) (p : Place) → Ends (construct go f vs p)
   construct-ends f vs p = ends (construct_part f vs p)
@@ -119,14 +119,14 @@ module _ {scoping : Scoping} (words : WordsEnd scoping) (functions : List Functi
 
   key_of-ends : (cx : Context) (base : Value) (e : ExpressionTree) (p : Place)
       → Ends (def.key_of scoping functions go cx base e p)
-  key_of-ends cx base e p = visit-ends cx e onto (λ v. test_base-ends base p then to_primitive-ends (call go) call-ends text_methods v p)
+  key_of-ends cx base e p = visit-ends cx e onto (λ v. test_base-ends base p then to_primitive-ends (calls go) calls-end text_methods v p)
 
   suffix_at-ends : (cx : Context) (this v : Value) (s : SuffixTree)
       → Ends (def.suffix_at scoping functions go cx this v s)
   suffix_at-ends cx this v (a_member p name) = test_base-ends v p then get-ends v name p onto (λ w. gives (v, w))
   suffix_at-ends cx this v (an_index p e) = key_of-ends cx v e p onto (λ key. get-ends v (text_of key) p onto (λ w. gives (v, w)))
   suffix_at-ends cx this v (a_call p es) =
-      arguments_from-ends cx [] es onto (λ vs. call_value-ends (call go) call-ends v this vs p onto (λ w. gives (global_object, w)))
+      arguments_from-ends cx [] es onto (λ vs. call_value-ends (calls go) calls-end v this vs p onto (λ w. gives (global_object, w)))
 
   suffixes_from-ends : (cx : Context) (this v : Value) (ss : Suffixes)
       → Ends (def.suffixes_from scoping functions go cx this v ss)
@@ -182,8 +182,8 @@ module _ {scoping : Scoping} (words : WordsEnd scoping) (functions : List Functi
   updated-ends : (cx : Context) (p : Place) (f : UpdateForm) (o : UpdateOp) (e : ExpressionTree)
       → Ends (def.updated scoping functions go cx p f o e)
   updated-ends cx p f o e =
-      reference-ends cx e onto (λ r. read-ends words cx r onto (λ old. to_number-ends (call go) call-ends old p
-      onto (λ n. stepped-ends (call go) o n p onto (λ m. write-ends words cx r (value.Number m) p
+      reference-ends cx e onto (λ r. read-ends words cx r onto (λ old. to_number-ends (calls go) calls-end old p
+      onto (λ n. stepped-ends (calls go) o n p onto (λ m. write-ends words cx r (value.Number m) p
       then gives (def.given_by f (value.Number n) (value.Number m))))))
 
   deleted-ends : (cx : Context) (p : Place) (e : ExpressionTree) → Ends (def.deleted scoping functions go cx p e)
@@ -202,11 +202,11 @@ module _ {scoping : Scoping} (words : WordsEnd scoping) (functions : List Functi
   unary_value-ends cx p unary.Void e = visit-ends cx e then gives value.Undefined
   unary_value-ends cx p unary.TypeOf e = type_of-ends cx e onto (λ v. reads (λ s. gives (value.Text (type_text s.heap v))))
   unary_value-ends cx p unary.Plus e =
-      visit-ends cx e onto (λ v. to_number-ends (call go) call-ends v p onto (λ n. gives (value.Number n)))
+      visit-ends cx e onto (λ v. to_number-ends (calls go) calls-end v p onto (λ n. gives (value.Number n)))
   unary_value-ends cx p unary.Minus e =
-      visit-ends cx e onto (λ v. to_number-ends (call go) call-ends v p onto (λ n. gives (value.Number (neg_ℤ n))))
+      visit-ends cx e onto (λ v. to_number-ends (calls go) calls-end v p onto (λ n. gives (value.Number (neg_ℤ n))))
   unary_value-ends cx p unary.BitNot e =
-      visit-ends cx e onto (λ v. to_bits-ends (call go) call-ends v p onto (λ n. gives (value.Number (neg_ℤ n -ℤ pos 1))))
+      visit-ends cx e onto (λ v. to_bits-ends (calls go) calls-end v p onto (λ n. gives (value.Number (neg_ℤ n -ℤ pos 1))))
   unary_value-ends cx p unary.Not e = visit-ends cx e onto (λ v. gives (value.Bool (not (truth_of v))))
 
   -- ---- binary operators
@@ -215,7 +215,7 @@ module _ {scoping : Scoping} (words : WordsEnd scoping) (functions : List Functi
       → Ends (def.operand_by scoping functions go cx p o v e)
   operand_by-ends cx p op.Or v e = either (truth_of v) (gives v) (visit-ends cx e)
   operand_by-ends cx p op.And v e = either (truth_of v) (visit-ends cx e) (gives v)
-  operand_by-ends cx p o v e = visit-ends cx e onto (λ w. binary-ends (call go) call-ends o v w p)
+  operand_by-ends cx p o v e = visit-ends cx e onto (λ w. binary-ends (calls go) calls-end o v w p)
 
   operands_from-ends : (cx : Context) (v : Value) (operands : Operands)
       → Ends (def.operands_from scoping functions go cx v operands)
@@ -234,7 +234,7 @@ module _ {scoping : Scoping} (words : WordsEnd scoping) (functions : List Functi
   assigned_with-ends : (cx : Context) (p : Place) (r : Reference) (o : Option BinaryOp) (e : ExpressionTree)
       → Ends (def.assigned_with scoping functions go cx p r o e)
   assigned_with-ends cx p r None e = visit-ends cx e
-  assigned_with-ends cx p r (Some o) e = read-ends words cx r onto (λ old. visit-ends cx e onto (λ v. binary-ends (call go) call-ends o old v p))
+  assigned_with-ends cx p r (Some o) e = read-ends words cx r onto (λ old. visit-ends cx e onto (λ v. binary-ends (calls go) calls-end o old v p))
 
   assigned-ends : (cx : Context) (p : Place) (e : ExpressionTree) (o : AssignOp) (value : ExpressionTree)
       → Ends (def.assigned scoping functions go cx p e o value)
