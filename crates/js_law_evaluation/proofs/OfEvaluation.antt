@@ -1,7 +1,7 @@
 -- Each part, at each depth, and each run have one end and ask for lookup names alone, where the words of scopes do.
 use Rattle.std.proofs.Common.{ℕ, zero, suc, List, [], ◌∷◌, Option, Some, None}
 use Rattle.std.specs.Prelude.{codes}
-use Rattle.js_tree.specs.Tree.{FunctionTree, Statements}
+use Rattle.js_tree.specs.Tree.{FunctionTree, StatementTree, Statements}
 use Rattle.heap_values.specs.declared.ids.ObjectId.{ObjectId}
 use Rattle.heap_values.specs.declared.value.Value.TheVariants as value
 use Rattle.object_heap.specs.Heap.{found_of}
@@ -9,10 +9,10 @@ use Rattle.js_evaluation.specs.State.{global_object}
 use Rattle.js_evaluation.specs.Objects.{global_id}
 use Rattle.js_evaluation.specs.Scoping.{Scoping, by_slots}
 use Rattle.js_evaluation.specs.Parts.{Part, expression_part, target_part, statement_part, call_part, construct_part, load_part, Within, part_place, outside}
-use Rattle.js_evaluation.specs.Evaluation.{node, evaluation, Entry, entry_of, called_for, script_run, first_state, outer_scope}
+use Rattle.js_evaluation.specs.Evaluation.{node, evaluation, Entry, entry_of, called_for, script_run, outer_scope, run_by_names}
 use Rattle.js_law_evaluation.specs.Laws.{AsksLookupNames, RunsAskLookupNames}
 use Rattle.js_law_evaluation.proofs.OfState.{Ends, fails, reads, ◌then◌, charges-ends, test_text-ends}
-use Rattle.js_law_evaluation.proofs.OfScoping.{WordsEnd, by_slots-end}
+use Rattle.js_law_evaluation.proofs.OfScoping.{WordsEnd, by_names-end, by_slots-end}
 use Rattle.js_law_evaluation.proofs.OfExpressions.{target_node-ends, expression_node-ends}
 use Rattle.js_law_evaluation.proofs.OfStatements.{statement_node-ends}
 use Rattle.js_law_evaluation.proofs.OfEntries.{call_node-ends, construct_node-ends, load_node-ends}
@@ -47,8 +47,11 @@ module _ {scoping : Scoping} (words : WordsEnd scoping) (functions : List Functi
 
 pub tree_by-asks : {scoping : Scoping} → WordsEnd scoping → RunsAskLookupNames scoping
 unfolding AsksLookupNames
-tree_by-asks {scoping} words ss functions entry =
-    (runs-end words functions entry ss).asks _ (λ result state. tt) (first_state scoping entry)
+tree_by-asks words ss functions entry = (runs-end words functions entry ss).asks _ (λ result state. tt) _
+
+-- the run of a script by its names
+pub asks-by-names : (script : List StatementTree) (entry : Entry) → AsksLookupNames (run_by_names script entry)
+asks-by-names script entry = tree_by-asks by_names-end _ _ entry
 
 -- the run of a program whose names have their slots
 pub runs-ask : RunsAskLookupNames by_slots
