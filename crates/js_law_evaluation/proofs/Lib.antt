@@ -3,6 +3,9 @@ pub mod PacAsking
 pub mod OfState
 pub mod OfHanded
 pub mod OfObjects
+pub mod OfByNames
+pub mod OfBySlots
+pub mod OfScoping
 pub mod OfConversions
 pub mod OfPacNatives
 pub mod OfNativeWork

@@ -1,5 +1,5 @@
--- Expressions have one end and ask for lookup names alone, where the parts that they visit do.
-use Rattle.std.proofs.Common.{ℕ, ◌+◌, pos, List, [], ◌∷◌, ◌++◌, Bool, true, false, if◌then◌else◌, Option, Some, None}
+-- Expressions have one end and ask for lookup names alone, where the words of scopes and the parts within do.
+use Rattle.std.proofs.Common.{ℕ, ◌+◌, pos, List, [], ◌∷◌, ◌++◌, Bool, true, false, Option, Some, None}
 use Rattle.std.specs.Prelude.{neg_ℤ, ◌-ℤ◌, not, slice_get, codes}
 use Rattle.js_tree.specs.declared.place.Place.{Place}
 use Rattle.js_tree.specs.declared.operators.BinaryOp.{BinaryOp}
@@ -11,6 +11,7 @@ use Rattle.js_tree.specs.declared.operators.UpdateForm.{UpdateForm}
 use Rattle.js_tree.specs.declared.operators.UpdateOp.{UpdateOp}
 use Rattle.js_tree.specs.Tree.{ExpressionTree, Number, Characters, True, False, Null, This, Name, Array, Object, Function, Numbered, Suffixed, New, Update, Unary, Chain, Conditional, Assign, Comma, absent, present, Expressions, no_expression, an_expression, Items, no_item, an_item, Properties, no_property, a_property, SuffixTree, a_member, an_index, a_call, Suffixes, no_suffix, a_suffix, Operands, no_operand, an_operand, FunctionTree, a_function}
 use Rattle.js_grammar.specs.Operators.{is_target}
+use Rattle.js_binding.specs.Scopes.{itself}
 use Rattle.heap_values.specs.declared.ids.Kind.{Kind}
 use Rattle.heap_values.specs.declared.ids.Kind.TheVariants as kind
 use Rattle.heap_values.specs.declared.ids.ObjectId.{ObjectId}
@@ -20,221 +21,233 @@ use Rattle.heap_values.specs.declared.value.Value.TheVariants as value
 use Rattle.object_heap.specs.Heap.{object_at, kind_in}
 use Rattle.js_convert.specs.Numeric.{truth_of}
 use Rattle.js_convert.specs.Texts.{text_of}
-use Rattle.js_evaluation.specs.State.{Does, built_in_object, global_object}
+use Rattle.js_evaluation.specs.State.{built_in_object, global_object}
 use Rattle.js_evaluation.specs.Objects.{Context, arity_of}
-use Rattle.js_evaluation.specs.Conversions.{Call, text_methods, assigned_by, type_text}
+use Rattle.js_evaluation.specs.Scoping.{Scoping}
+use Rattle.js_evaluation.specs.Parts.{Part, expression_part, target_part, call_part, construct_part, Within, visit, visit_target, calls, construct, suffix_place}
+use Rattle.js_evaluation.specs.Conversions.{text_methods, assigned_by, type_text}
 use Rattle.js_evaluation.specs.NativeTable.{constructs, native_of}
 use Rattle.js_evaluation.specs.Expressions as def
-use Rattle.js_evaluation.specs.Expressions.{Reference, to_name, to_property, suffix_place, referred}
-use Rattle.js_law_evaluation.proofs.OfState.{Ends, gives, halts, reads, ◌onto◌, ◌then◌, either, charges-ends, make-ends, make_scope-ends, define-ends, write_slot-ends, test_text-ends, set_base-ends, the_base-ends, throw_type_error-ends}
-use Rattle.js_law_evaluation.proofs.OfObjects.{get-ends, put-ends, test_base-ends, delete_property-ends, delete_bound-ends, read_name-ends, read_or_undefined-ends, write_name-ends, closure-ends}
+use Rattle.js_evaluation.specs.Expressions.{Reference, to_name, to_property, referred}
+use Rattle.js_law_evaluation.proofs.OfState.{Ends, gives, halts, reads, ◌onto◌, ◌then◌, either, charges-ends, make-ends, define-ends, write_slot-ends, test_text-ends, set_base-ends, the_base-ends, throw_type_error-ends}
+use Rattle.js_law_evaluation.proofs.OfObjects.{get-ends, put-ends, test_base-ends, delete_property-ends, closure-ends}
+use Rattle.js_law_evaluation.proofs.OfScoping.{WordsEnd}
 use Rattle.js_law_evaluation.proofs.OfConversions.{CallsEnd, call_value-ends, to_number-ends, to_primitive-ends, to_bits-ends, binary-ends, stepped-ends}
 
-read-ends : (cx : Context) (r : Reference) → Ends (def.read cx r)
-read-ends cx (to_name p x) = read_name-ends cx x p
-read-ends cx (to_property p base key) = get-ends base key p
+-- ---- references
 
-pub write-ends : (cx : Context) (r : Reference) (v : Value) (place : Place) → Ends (def.write cx r v place)
-write-ends cx (to_name p x) v place = write_name-ends cx x v place
-write-ends cx (to_property p base key) v place = put-ends base key v place
+read-ends : {scoping : Scoping} → WordsEnd scoping → (cx : Context) (r : Reference) → Ends (def.read scoping cx r)
+read-ends words cx (to_name p x) = words.read_name cx x p
+read-ends words cx (to_property p base key) = get-ends base key p
 
--- visits of an expression come to one end
-abbrev pub VisitsEnd : (Context → ExpressionTree → Does Value) → Type 0
-VisitsEnd visit = (cx : Context) (e : ExpressionTree) → Ends (visit cx e)
+pub write-ends : {scoping : Scoping} → WordsEnd scoping → (cx : Context) (r : Reference) (v : Value) (place : Place)
+    → Ends (def.write scoping cx r v place)
+write-ends words cx (to_name p x) v place = words.write_name cx x v place
+write-ends words cx (to_property p base key) v place = put-ends base key v place
 
--- constructions come to one end
-abbrev pub ConstructionsEnd : (ObjectId → List Value → Place → Does Value) → Type 0
-ConstructionsEnd construct = (f : ObjectId) (vs : List Value) (place : Place) → Ends (construct f vs place)
+-- ---- what visits no part
 
-module _ (functions : List FunctionTree)
-    (visit target : Context → ExpressionTree → Does Value) (call : Call) (construct : ObjectId → List Value → Place → Does Value)
-    (visit-ends : VisitsEnd visit) (target-ends : VisitsEnd target) (call-ends : CallsEnd call) (construct-ends : ConstructionsEnd construct) where
+end_of_array-ends : (p : Place) (array : ObjectId) (count : ℕ) (hole : Bool) → Ends (def.end_of_array p array count hole)
+end_of_array-ends p array count true =
+    put-ends (value.Object array) (codes "length") (value.Number (pos count)) p then gives (value.Object array)
+end_of_array-ends p array count false = gives (value.Object array)
+
+text_literal-ends : (p : Place) (t : List ℕ) → Ends (def.text_literal p t)
+text_literal-ends p t = test_text-ends t p then gives (value.Text t)
+
+this_behind-ends : (e : ExpressionTree) → Ends (def.this_behind e)
+this_behind-ends (Suffixed p e ss) = the_base-ends
+this_behind-ends e = gives global_object
+
+module _ {scoping : Scoping} (words : WordsEnd scoping) (functions : List FunctionTree)
+    {go : Within} (ends : (part : Part) → Ends (go part)) where
+  -- ---- the parts within
+
+  visit-ends : (cx : Context) (e : ExpressionTree) → Ends (visit go cx e)
+  visit-ends cx e = ends (expression_part cx e)
+
+  target-ends : (cx : Context) (e : ExpressionTree) → Ends (visit_target go cx e)
+  target-ends cx e = ends (target_part cx e)
+
+  calls-end : CallsEnd (calls go)
+  calls-end f this vs p = ends (call_part f this vs p)
+
+  construct-ends : (f : ObjectId) (vs : List Value) (p : Place) → Ends (construct go f vs p)
+  construct-ends f vs p = ends (construct_part f vs p)
+
   -- ---- literals
 
-  end_of_array-ends : (p : Place) (array : ObjectId) (count : ℕ) (hole : Bool)
-      → Ends (def.end_of_array functions visit target call construct p array count hole)
-  end_of_array-ends p array count true =
-      put-ends (value.Object array) (codes "length") (value.Number (pos count)) p then gives (value.Object array)
-  end_of_array-ends p array count false = gives (value.Object array)
-
   items_from-ends : (cx : Context) (p : Place) (array : ObjectId) (count : ℕ) (hole : Bool) (items : Items)
-      → Ends (def.items_from functions visit target call construct cx p array count hole items)
+      → Ends (def.items_from scoping functions go cx p array count hole items)
   items_from-ends cx p array count hole no_item = end_of_array-ends p array count hole
   items_from-ends cx p array count hole (an_item absent rest) = items_from-ends cx p array (count + 1) true rest
   items_from-ends cx p array count hole (an_item (present e) rest) =
       visit-ends cx e onto (λ v. define-ends array _ v true true p then items_from-ends cx p array (count + 1) false rest)
 
   array_literal-ends : (cx : Context) (p : Place) (items : Items)
-      → Ends (def.array_literal functions visit target call construct cx p items)
+      → Ends (def.array_literal scoping functions go cx p items)
   array_literal-ends cx p items =
       make-ends kind.Array (Some (built_in_object built_in.ArrayPrototype)) p onto (λ array. items_from-ends cx p array 0 false items)
 
   properties_from-ends : (cx : Context) (p : Place) (object : ObjectId) (properties : Properties)
-      → Ends (def.properties_from functions visit target call construct cx p object properties)
+      → Ends (def.properties_from scoping functions go cx p object properties)
   properties_from-ends cx p object no_property = gives (value.Object object)
   properties_from-ends cx p object (a_property name e rest) =
       visit-ends cx e onto (λ v. define-ends object name v true true p then properties_from-ends cx p object rest)
 
   object_literal-ends : (cx : Context) (p : Place) (properties : Properties)
-      → Ends (def.object_literal functions visit target call construct cx p properties)
+      → Ends (def.object_literal scoping functions go cx p properties)
   object_literal-ends cx p properties =
       make-ends kind.Plain (Some (built_in_object built_in.ObjectPrototype)) p onto (λ object. properties_from-ends cx p object properties)
 
   function_value_of-ends : (cx : Context) (p : Place) (n : ℕ) (f : Option FunctionTree)
-      → Ends (def.function_value_of functions visit target call construct cx p n f)
+      → Ends (def.function_value_of scoping functions go cx p n f)
   function_value_of-ends cx p n (Some (a_function (Some x) parameters names body)) =
-      make_scope-ends 1 cx.scope p onto (λ scope. closure-ends n (arity_of (slice_get functions n)) scope p
+      words.make_scope (itself x.name) cx.scope p onto (λ scope. closure-ends n (arity_of (slice_get functions n)) scope p
       onto (λ f. write_slot-ends scope 0 f then gives f))
   function_value_of-ends cx p n f = closure-ends n (arity_of f) cx.scope p
 
-  function_value-ends : (cx : Context) (p : Place) (n : ℕ) → Ends (def.function_value functions visit target call construct cx p n)
+  function_value-ends : (cx : Context) (p : Place) (n : ℕ) → Ends (def.function_value scoping functions go cx p n)
   function_value-ends cx p n = function_value_of-ends cx p n (slice_get functions n)
-
-  text_literal-ends : (p : Place) (t : List ℕ) → Ends (def.text_literal functions visit target call construct p t)
-  text_literal-ends p t = test_text-ends t p then gives (value.Text t)
 
   -- ---- members, indexes and calls
 
   arguments_from-ends : (cx : Context) (done : List Value) (es : Expressions)
-      → Ends (def.arguments_from functions visit target call construct cx done es)
+      → Ends (def.arguments_from scoping functions go cx done es)
   arguments_from-ends cx done no_expression = gives done
   arguments_from-ends cx done (an_expression e es) = visit-ends cx e onto (λ v. arguments_from-ends cx (done ++ v ∷ []) es)
 
   key_of-ends : (cx : Context) (base : Value) (e : ExpressionTree) (p : Place)
-      → Ends (def.key_of functions visit target call construct cx base e p)
-  key_of-ends cx base e p = visit-ends cx e onto (λ v. test_base-ends base p then to_primitive-ends call call-ends text_methods v p)
+      → Ends (def.key_of scoping functions go cx base e p)
+  key_of-ends cx base e p = visit-ends cx e onto (λ v. test_base-ends base p then to_primitive-ends (calls go) calls-end text_methods v p)
 
   suffix_at-ends : (cx : Context) (this v : Value) (s : SuffixTree)
-      → Ends (def.suffix_at functions visit target call construct cx this v s)
+      → Ends (def.suffix_at scoping functions go cx this v s)
   suffix_at-ends cx this v (a_member p name) = test_base-ends v p then get-ends v name p onto (λ w. gives (v, w))
   suffix_at-ends cx this v (an_index p e) = key_of-ends cx v e p onto (λ key. get-ends v (text_of key) p onto (λ w. gives (v, w)))
   suffix_at-ends cx this v (a_call p es) =
-      arguments_from-ends cx [] es onto (λ vs. call_value-ends call call-ends v this vs p onto (λ w. gives (global_object, w)))
+      arguments_from-ends cx [] es onto (λ vs. call_value-ends (calls go) calls-end v this vs p onto (λ w. gives (global_object, w)))
 
   suffixes_from-ends : (cx : Context) (this v : Value) (ss : Suffixes)
-      → Ends (def.suffixes_from functions visit target call construct cx this v ss)
+      → Ends (def.suffixes_from scoping functions go cx this v ss)
   suffixes_from-ends cx this v no_suffix = set_base-ends this then gives v
   suffixes_from-ends cx this v (a_suffix s ss) =
       charges-ends 1 (suffix_place s) then suffix_at-ends cx this v s onto (λ x. suffixes_from-ends cx x.0 x.1 ss)
 
-  this_behind-ends : (e : ExpressionTree) → Ends (def.this_behind functions visit target call construct e)
-  this_behind-ends (Suffixed p e ss) = the_base-ends
-  this_behind-ends e = gives global_object
-
   suffixed-ends : (cx : Context) (first : ExpressionTree) (ss : Suffixes)
-      → Ends (def.suffixed functions visit target call construct cx first ss)
+      → Ends (def.suffixed scoping functions go cx first ss)
   suffixed-ends cx first ss = visit-ends cx first onto (λ v. this_behind-ends first onto (λ this. suffixes_from-ends cx this v ss))
 
   -- ---- targets of writes
 
-  last_at-ends : (cx : Context) (v : Value) (s : SuffixTree) → Ends (def.last_at functions visit target call construct cx v s)
+  last_at-ends : (cx : Context) (v : Value) (s : SuffixTree) → Ends (def.last_at scoping functions go cx v s)
   last_at-ends cx v (a_member p name) = test_base-ends v p then set_base-ends v then gives (value.Text name)
   last_at-ends cx v (an_index p e) = key_of-ends cx v e p onto (λ key. set_base-ends v then gives key)
   last_at-ends cx v (a_call p es) = gives value.Undefined
 
   target_suffixes-ends : (cx : Context) (this v : Value) (ss : Suffixes)
-      → Ends (def.target_suffixes functions visit target call construct cx this v ss)
+      → Ends (def.target_suffixes scoping functions go cx this v ss)
   target_suffixes-ends cx this v no_suffix = gives value.Undefined
   target_suffixes-ends cx this v (a_suffix s no_suffix) = charges-ends 1 (suffix_place s) then last_at-ends cx v s
   target_suffixes-ends cx this v (a_suffix s (a_suffix t ss)) =
       charges-ends 1 (suffix_place s) then suffix_at-ends cx this v s onto (λ x. target_suffixes-ends cx x.0 x.1 (a_suffix t ss))
 
-  pub target_node-ends : (cx : Context) (e : ExpressionTree) → Ends (def.target_node functions visit target call construct cx e)
+  pub target_node-ends : (cx : Context) (e : ExpressionTree) → Ends (def.target_node scoping functions go cx e)
   target_node-ends cx (Suffixed p first ss) =
       visit-ends cx first onto (λ v. this_behind-ends first onto (λ this. target_suffixes-ends cx this v ss))
   target_node-ends cx e = gives value.Undefined
 
-  pub reference-ends : (cx : Context) (e : ExpressionTree) → Ends (def.reference functions visit target call construct cx e)
+  pub reference-ends : (cx : Context) (e : ExpressionTree) → Ends (def.reference scoping functions go cx e)
   reference-ends cx e = target-ends cx e onto (λ key. the_base-ends onto (λ base. gives (referred e key base)))
 
   -- ---- `new`
 
   constructed_by-ends : (k : Kind) (id : ObjectId) (vs : List Value) (p : Place)
-      → Ends (def.constructed_by functions visit target call construct k id vs p)
+      → Ends (def.constructed_by scoping functions go k id vs p)
   constructed_by-ends (kind.Function f scope) id vs p = construct-ends id vs p
   constructed_by-ends (kind.Native n) id vs p = either (constructs (native_of n)) (construct-ends id vs p) (halts _)
   constructed_by-ends k id vs p = throw_type_error-ends (codes "not a constructor") p
 
-  constructed-ends : (v : Value) (vs : List Value) (p : Place) → Ends (def.constructed functions visit target call construct v vs p)
+  constructed-ends : (v : Value) (vs : List Value) (p : Place) → Ends (def.constructed scoping functions go v vs p)
   constructed-ends (value.Object id) vs p = reads (λ s. constructed_by-ends (kind_in (object_at s.heap id)) id vs p)
   constructed-ends v vs p = throw_type_error-ends (codes "not a constructor") p
 
   new_value-ends : (cx : Context) (p : Place) (callee : ExpressionTree) (es : Expressions)
-      → Ends (def.new_value functions visit target call construct cx p callee es)
+      → Ends (def.new_value scoping functions go cx p callee es)
   new_value-ends cx p callee es =
       visit-ends cx callee onto (λ f. arguments_from-ends cx [] es onto (λ vs. constructed-ends f vs p))
 
   -- ---- prefix and postfix operators
 
   updated-ends : (cx : Context) (p : Place) (f : UpdateForm) (o : UpdateOp) (e : ExpressionTree)
-      → Ends (def.updated functions visit target call construct cx p f o e)
+      → Ends (def.updated scoping functions go cx p f o e)
   updated-ends cx p f o e =
-      reference-ends cx e onto (λ r. read-ends cx r onto (λ old. to_number-ends call call-ends old p
-      onto (λ n. stepped-ends call o n p onto (λ m. write-ends cx r (value.Number m) p
-      then gives (def.given_by functions visit target call construct f (value.Number n) (value.Number m))))))
+      reference-ends cx e onto (λ r. read-ends words cx r onto (λ old. to_number-ends (calls go) calls-end old p
+      onto (λ n. stepped-ends (calls go) o n p onto (λ m. write-ends words cx r (value.Number m) p
+      then gives (def.given_by f (value.Number n) (value.Number m))))))
 
-  deleted-ends : (cx : Context) (p : Place) (e : ExpressionTree) → Ends (def.deleted functions visit target call construct cx p e)
-  deleted-ends cx p (Name q x) = target-ends cx (Name q x) then delete_bound-ends x.name x.bound p
+  deleted-ends : (cx : Context) (p : Place) (e : ExpressionTree) → Ends (def.deleted scoping functions go cx p e)
+  deleted-ends cx p (Name q x) = target-ends cx (Name q x) then words.delete_name cx x p
   deleted-ends cx p e = either (is_target e)
       (target-ends cx e onto (λ key. the_base-ends onto (λ base. delete_property-ends base (text_of key) p)))
       (visit-ends cx e then gives (value.Bool true))
 
-  type_of-ends : (cx : Context) (e : ExpressionTree) → Ends (def.type_of functions visit target call construct cx e)
-  type_of-ends cx (Name p x) = target-ends cx (Name p x) then read_or_undefined-ends cx x p
+  type_of-ends : (cx : Context) (e : ExpressionTree) → Ends (def.type_of scoping functions go cx e)
+  type_of-ends cx (Name p x) = target-ends cx (Name p x) then words.read_or_undefined cx x p
   type_of-ends cx e = visit-ends cx e
 
   unary_value-ends : (cx : Context) (p : Place) (o : UnaryOp) (e : ExpressionTree)
-      → Ends (def.unary_value functions visit target call construct cx p o e)
+      → Ends (def.unary_value scoping functions go cx p o e)
   unary_value-ends cx p unary.Delete e = deleted-ends cx p e
   unary_value-ends cx p unary.Void e = visit-ends cx e then gives value.Undefined
   unary_value-ends cx p unary.TypeOf e = type_of-ends cx e onto (λ v. reads (λ s. gives (value.Text (type_text s.heap v))))
   unary_value-ends cx p unary.Plus e =
-      visit-ends cx e onto (λ v. to_number-ends call call-ends v p onto (λ n. gives (value.Number n)))
+      visit-ends cx e onto (λ v. to_number-ends (calls go) calls-end v p onto (λ n. gives (value.Number n)))
   unary_value-ends cx p unary.Minus e =
-      visit-ends cx e onto (λ v. to_number-ends call call-ends v p onto (λ n. gives (value.Number (neg_ℤ n))))
+      visit-ends cx e onto (λ v. to_number-ends (calls go) calls-end v p onto (λ n. gives (value.Number (neg_ℤ n))))
   unary_value-ends cx p unary.BitNot e =
-      visit-ends cx e onto (λ v. to_bits-ends call call-ends v p onto (λ n. gives (value.Number (neg_ℤ n -ℤ pos 1))))
+      visit-ends cx e onto (λ v. to_bits-ends (calls go) calls-end v p onto (λ n. gives (value.Number (neg_ℤ n -ℤ pos 1))))
   unary_value-ends cx p unary.Not e = visit-ends cx e onto (λ v. gives (value.Bool (not (truth_of v))))
 
   -- ---- binary operators
 
   operand_by-ends : (cx : Context) (p : Place) (o : BinaryOp) (v : Value) (e : ExpressionTree)
-      → Ends (def.operand_by functions visit target call construct cx p o v e)
+      → Ends (def.operand_by scoping functions go cx p o v e)
   operand_by-ends cx p op.Or v e = either (truth_of v) (gives v) (visit-ends cx e)
   operand_by-ends cx p op.And v e = either (truth_of v) (visit-ends cx e) (gives v)
-  operand_by-ends cx p o v e = visit-ends cx e onto (λ w. binary-ends call call-ends o v w p)
+  operand_by-ends cx p o v e = visit-ends cx e onto (λ w. binary-ends (calls go) calls-end o v w p)
 
   operands_from-ends : (cx : Context) (v : Value) (operands : Operands)
-      → Ends (def.operands_from functions visit target call construct cx v operands)
+      → Ends (def.operands_from scoping functions go cx v operands)
   operands_from-ends cx v no_operand = gives v
   operands_from-ends cx v (an_operand p o e rest) = operand_by-ends cx p o v e onto (λ w. operands_from-ends cx w rest)
 
   chain-ends : (cx : Context) (first : ExpressionTree) (operands : Operands)
-      → Ends (def.chain functions visit target call construct cx first operands)
+      → Ends (def.chain scoping functions go cx first operands)
   chain-ends cx first operands = visit-ends cx first onto (λ v. operands_from-ends cx v operands)
 
   -- ---- `?:`, assignment and commas
 
-  conditional-ends : (cx : Context) (c a b : ExpressionTree) → Ends (def.conditional functions visit target call construct cx c a b)
+  conditional-ends : (cx : Context) (c a b : ExpressionTree) → Ends (def.conditional scoping functions go cx c a b)
   conditional-ends cx c a b = visit-ends cx c onto (λ v. either (truth_of v) (visit-ends cx a) (visit-ends cx b))
 
   assigned_with-ends : (cx : Context) (p : Place) (r : Reference) (o : Option BinaryOp) (e : ExpressionTree)
-      → Ends (def.assigned_with functions visit target call construct cx p r o e)
+      → Ends (def.assigned_with scoping functions go cx p r o e)
   assigned_with-ends cx p r None e = visit-ends cx e
-  assigned_with-ends cx p r (Some o) e = read-ends cx r onto (λ old. visit-ends cx e onto (λ v. binary-ends call call-ends o old v p))
+  assigned_with-ends cx p r (Some o) e = read-ends words cx r onto (λ old. visit-ends cx e onto (λ v. binary-ends (calls go) calls-end o old v p))
 
   assigned-ends : (cx : Context) (p : Place) (e : ExpressionTree) (o : AssignOp) (value : ExpressionTree)
-      → Ends (def.assigned functions visit target call construct cx p e o value)
+      → Ends (def.assigned scoping functions go cx p e o value)
   assigned-ends cx p e o value =
-      reference-ends cx e onto (λ r. assigned_with-ends cx p r (assigned_by o) value onto (λ v. write-ends cx r v p then gives v))
+      reference-ends cx e onto (λ r. assigned_with-ends cx p r (assigned_by o) value onto (λ v. write-ends words cx r v p then gives v))
 
-  comma_from-ends : (cx : Context) (v : Value) (es : Expressions) → Ends (def.comma_from functions visit target call construct cx v es)
+  comma_from-ends : (cx : Context) (v : Value) (es : Expressions) → Ends (def.comma_from scoping functions go cx v es)
   comma_from-ends cx v no_expression = gives v
   comma_from-ends cx v (an_expression e es) = visit-ends cx e onto (λ w. comma_from-ends cx w es)
 
   -- ---- all of them
 
-  pub expression_node-ends : (cx : Context) (e : ExpressionTree) → Ends (def.expression_node functions visit target call construct cx e)
+  pub expression_node-ends : (cx : Context) (e : ExpressionTree) → Ends (def.expression_node scoping functions go cx e)
   unfolding def.expression_node
   expression_node-ends cx (Number p n) = gives (value.Number n)
   expression_node-ends cx (Characters p t) = text_literal-ends p t
@@ -242,7 +255,7 @@ module _ (functions : List FunctionTree)
   expression_node-ends cx (False p) = gives (value.Bool false)
   expression_node-ends cx (Null p) = gives value.Null
   expression_node-ends cx (This p) = gives cx.this
-  expression_node-ends cx (Name p x) = read_name-ends cx x p
+  expression_node-ends cx (Name p x) = words.read_name cx x p
   expression_node-ends cx (Array p items) = array_literal-ends cx p items
   expression_node-ends cx (Object p properties) = object_literal-ends cx p properties
   expression_node-ends cx (Function p f) = gives value.Undefined

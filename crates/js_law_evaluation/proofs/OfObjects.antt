@@ -1,11 +1,8 @@
--- Properties, names and functions have one end and ask for lookup names alone.
+-- Properties of values, and functions, have one end and ask for lookup names alone.
 use Rattle.std.proofs.Common.{ℕ, suc, pos, List, [], ◌∷◌, ◌++◌, Bool, true, false, Option, Some, None, Result, Ok, Err}
 use Rattle.std.specs.Prelude.{codes}
 use Rattle.std.specs.Fmt.{decimal}
 use Rattle.js_tree.specs.declared.place.Place.{Place}
-use Rattle.js_tree.specs.declared.bound.Bound.{Bound}
-use Rattle.js_tree.specs.declared.bound.Bound.TheVariants as bound
-use Rattle.js_tree.specs.declared.bound.BoundName.{BoundName}
 use Rattle.heap_values.specs.declared.answer.HeapAnswer.{HeapAnswer}
 use Rattle.heap_values.specs.declared.answer.HeapAnswer.TheVariants as heap
 use Rattle.heap_values.specs.declared.found.Found.{Found}
@@ -18,10 +15,10 @@ use Rattle.heap_values.specs.declared.value.Value.{Value}
 use Rattle.heap_values.specs.declared.value.Value.TheVariants.{Undefined, Null, Bool as Truth, Number, Object}
 use Rattle.heap_values.specs.Views.{HeapView}
 use Rattle.heap_objects.specs.Object.{property_after}
-use Rattle.object_heap.specs.Heap.{object_at, slot_of, found_of, own_found_in, stored, deleted_of}
+use Rattle.object_heap.specs.Heap.{object_at, found_of, own_found_in, stored, deleted_of}
 use Rattle.js_evaluation.specs.State.{built_in_object}
-use Rattle.js_evaluation.specs.Objects.{Context, holder_of, own_of, found_value, get_from, get_or, get, test_base, is_fixed, written, put_on, put, truth_after, deleted_unless, delete_property, is_there, has_property, stands_among, scope_out, global_id, global_value, read_bound, read_name, read_or_undefined_by, read_or_undefined, write_bound, write_name, delete_bound, elements_from, closure}
-use Rattle.js_law_evaluation.proofs.OfState.{Ends, gives, fails, halts, reads, ◌onto◌, ◌then◌, either, with_heap-ends, make-ends, define-ends, write_slot-ends, throw_error-ends, throw_type_error-ends}
+use Rattle.js_evaluation.specs.Objects.{holder_of, own_of, found_value, get_from, get_or, get, test_base, is_fixed, written, put_on, put, truth_after, deleted_unless, delete_property, is_there, has_property, stands_among, global_value, elements_from, closure}
+use Rattle.js_law_evaluation.proofs.OfState.{Ends, gives, fails, halts, reads, ◌onto◌, ◌then◌, either, with_heap-ends, make-ends, define-ends, throw_error-ends, throw_type_error-ends}
 
 -- ---- properties of values
 
@@ -81,41 +78,12 @@ pub stands_among-ends : (id : ObjectId) (v : Value) (place : Place) → Ends (st
 stands_among-ends id (Object prototype) place = reads (λ s. gives _)
 stands_among-ends id v place = throw_type_error-ends (codes "not an object") place
 
--- ---- names
+-- ---- the global object
 
-global_value-ends : (name : List ℕ) (f : Found) (place : Place) → Ends (global_value name f place)
+pub global_value-ends : (name : List ℕ) (f : Found) (place : Place) → Ends (global_value name f place)
 global_value-ends name (found.Value v) place = gives v
 global_value-ends name found.Absent place = throw_error-ends built_in.ReferenceErrorPrototype (name ++ codes " is not defined") place
 global_value-ends name (found.LeftOut left_out) place = halts _
-
-read_bound-ends : (cx : Context) (name : List ℕ) (b : Bound) (place : Place) → Ends (read_bound cx name b place)
-read_bound-ends cx name (bound.Slot up slot) place = reads (λ s. gives (slot_of s.heap (scope_out s.heap up cx.scope) slot))
-read_bound-ends cx name (bound.Own up) place = reads (λ s. gives (slot_of s.heap (scope_out s.heap up cx.scope) 0))
-read_bound-ends cx name bound.Global place = reads (λ s. global_value-ends name (found_of s.heap global_id name) place)
-read_bound-ends cx name bound.Unbound place = gives Undefined
-
-pub read_name-ends : (cx : Context) (x : BoundName) (place : Place) → Ends (read_name cx x place)
-read_name-ends cx x place = read_bound-ends cx x.name x.bound place
-
-read_or_undefined_by-ends : (cx : Context) (x : BoundName) (b : Bound) (place : Place) → Ends (read_or_undefined_by cx x b place)
-read_or_undefined_by-ends cx x bound.Global place = reads (λ s. found_value-ends Undefined (found_of s.heap global_id x.name) place)
-read_or_undefined_by-ends cx x b place = read_name-ends cx x place
-
-pub read_or_undefined-ends : (cx : Context) (x : BoundName) (place : Place) → Ends (read_or_undefined cx x place)
-read_or_undefined-ends cx x place = read_or_undefined_by-ends cx x x.bound place
-
-write_bound-ends : (cx : Context) (name : List ℕ) (b : Bound) (v : Value) (place : Place) → Ends (write_bound cx name b v place)
-write_bound-ends cx name (bound.Slot up slot) v place = reads (λ s. write_slot-ends (scope_out s.heap up cx.scope) slot v)
-write_bound-ends cx name (bound.Own up) v place = gives tt
-write_bound-ends cx name bound.Global v place = put_on-ends global_id name v place
-write_bound-ends cx name bound.Unbound v place = gives tt
-
-pub write_name-ends : (cx : Context) (x : BoundName) (v : Value) (place : Place) → Ends (write_name cx x v place)
-write_name-ends cx x v place = write_bound-ends cx x.name x.bound v place
-
-pub delete_bound-ends : (name : List ℕ) (b : Bound) (place : Place) → Ends (delete_bound name b place)
-delete_bound-ends name bound.Global place = delete_property-ends (Object global_id) name place
-delete_bound-ends name b place = gives (Truth false)
 
 -- ---- elements
 

@@ -1,18 +1,22 @@
-// Laws over the definition of evaluation.
+// Laws over the definition of evaluation, each of both ways in which a run has its scopes.
+ghost use Rattle.js_evaluation.specs.Scoping.{by_names, by_slots};
 ghost use Rattle.js_law_evaluation.specs.Laws.{EvaluationHasOneEnd, RunsAskLookupNames, RunsHaveOneEnd};
 
 /// Each part of a script, with each number of parts that may still be opened, comes to one end, state, alerts and names
 /// asked, whatever comes after it.
 pub fn evaluation_has_one_end()
-    ensures { EvaluationHasOneEnd }
+    ensures names { EvaluationHasOneEnd by_names }
+    ensures slots { EvaluationHasOneEnd by_slots }
 {}
 
 /// A run of a script comes to one end.
 pub fn runs_have_one_end()
-    ensures { RunsHaveOneEnd }
+    ensures names { RunsHaveOneEnd by_names }
+    ensures slots { RunsHaveOneEnd by_slots }
 {}
 
 /// A run of a script asks its host for lookup names alone, whatever replies it gets.
 pub fn runs_ask_lookup_names()
-    ensures { RunsAskLookupNames }
+    ensures names { RunsAskLookupNames by_names }
+    ensures slots { RunsAskLookupNames by_slots }
 {}

@@ -1,5 +1,5 @@
 //! Two laws of evaluation: each part of a script, at each depth, and each run come to one end; and a run asks its host
-//! for lookup names alone.
+//! for lookup names alone. Both hold of a run by names and of a run by slots.
 //!
 //! `specs/Laws.antt` states them on the definition of evaluation in js_evaluation. The crate has no code that runs.
 #![tactic(auto)]
