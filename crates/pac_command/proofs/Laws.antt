@@ -6,6 +6,7 @@ use Rattle.js_grammar.specs.Readers.{a_parameter, any_word, expect, name, parame
 use Rattle.js_grammar.specs.Expressions.{a_part, a_statement, a_suffix, an_argument, an_operand, arguments, assignment, chain, conditional, expression, function_from, in_parentheses, level, postfix, primary, suffixed, unary}
 use Rattle.js_grammar.specs.Statements.{a_branch, a_declared, block, block_from, deeper, evaluated, first_value, function_statement, if_statement, one_branch, otherwise, return_statement, script_within, statement, var_statement}
 use Rattle.js_evaluation.specs.Evaluation.{run_by_names}
+use Rattle.js_law_evaluation.proofs.OfEvaluation.{asks-by-names}
 use Rattle.poll_loop.proofs.Kept.{memory_cut}
 use Rattle.pac_ask.proofs.Begin as name_begins
 use Rattle.pac_ask.proofs.Answered as name_told
