@@ -85,17 +85,17 @@ module _ {scoping : Scoping} (words : WordsEnd scoping) (functions : List Functi
 
   -- ---- loops
 
-  while_turns-ends : (n : ℕ) (cx : Context) (p : Place) (c : ExpressionTree) (body : StatementTree)
-      → Ends (def.while_turns scoping functions go n cx p c body)
-  while_turns-ends zero cx p c body = fails _ p
-  while_turns-ends (suc n) cx p c body =
-      visit-ends cx c onto (λ v. either (truth_of v) (turns-ends (execute-ends cx body) (while_turns-ends n cx p c body)) nothing-ends)
+  while_turns-ends : (cx : Context) (n : ℕ) (p : Place) (c : ExpressionTree) (body : StatementTree)
+      → Ends (def.while_turns scoping functions go cx n p c body)
+  while_turns-ends cx zero p c body = fails _ p
+  while_turns-ends cx (suc n) p c body =
+      visit-ends cx c onto (λ v. either (truth_of v) (turns-ends (execute-ends cx body) (while_turns-ends cx n p c body)) nothing-ends)
 
-  do_turns-ends : (n : ℕ) (cx : Context) (p : Place) (body : StatementTree) (c : ExpressionTree)
-      → Ends (def.do_turns scoping functions go n cx p body c)
-  do_turns-ends zero cx p body c = fails _ p
-  do_turns-ends (suc n) cx p body c =
-      turns-ends (execute-ends cx body) (visit-ends cx c onto (λ v. either (truth_of v) (do_turns-ends n cx p body c) nothing-ends))
+  do_turns-ends : (cx : Context) (n : ℕ) (p : Place) (body : StatementTree) (c : ExpressionTree)
+      → Ends (def.do_turns scoping functions go cx n p body c)
+  do_turns-ends cx zero p body c = fails _ p
+  do_turns-ends cx (suc n) p body c =
+      turns-ends (execute-ends cx body) (visit-ends cx c onto (λ v. either (truth_of v) (do_turns-ends cx n p body c) nothing-ends))
 
   started-ends : (cx : Context) (start : StartTree) → Ends (def.started scoping functions go cx start)
   started-ends cx no_start = nothing-ends
@@ -110,16 +110,16 @@ module _ {scoping : Scoping} (words : WordsEnd scoping) (functions : List Functi
   evaluated_if-ends cx absent = nothing-ends
   evaluated_if-ends cx (present e) = visit-ends cx e
 
-  for_turns-ends : (n : ℕ) (cx : Context) (p : Place) (c step : OptionalExpression) (body : StatementTree)
-      → Ends (def.for_turns scoping functions go n cx p c step body)
-  for_turns-ends zero cx p c step body = fails _ p
-  for_turns-ends (suc n) cx p c step body =
+  for_turns-ends : (cx : Context) (n : ℕ) (p : Place) (c step : OptionalExpression) (body : StatementTree)
+      → Ends (def.for_turns scoping functions go cx n p c step body)
+  for_turns-ends cx zero p c step body = fails _ p
+  for_turns-ends cx (suc n) p c step body =
       holds-ends cx c onto (λ v. either (truth_of v)
-      (turns-ends (execute-ends cx body) (evaluated_if-ends cx step then for_turns-ends n cx p c step body)) nothing-ends)
+      (turns-ends (execute-ends cx body) (evaluated_if-ends cx step then for_turns-ends cx n p c step body)) nothing-ends)
 
   for_loop-ends : (cx : Context) (p : Place) (start : StartTree) (c step : OptionalExpression) (body : StatementTree)
       → Ends (def.for_loop scoping functions go cx p start c step body)
-  for_loop-ends cx p start c step body = started-ends cx start then reads (λ s. for_turns-ends (suc s.fuel) cx p c step body)
+  for_loop-ends cx p start c step body = started-ends cx start then reads (λ s. for_turns-ends cx (suc s.fuel) p c step body)
 
   -- ---- `for`-`in`
 
@@ -203,8 +203,8 @@ module _ {scoping : Scoping} (words : WordsEnd scoping) (functions : List Functi
   statement_node-ends cx (Debugger p) = nothing-ends
   statement_node-ends cx (Var p ds) = variables_from-ends cx p ds
   statement_node-ends cx (If p bs last) = branches_from-ends cx bs last
-  statement_node-ends cx (DoWhile p s c) = reads (λ t. do_turns-ends (suc t.fuel) cx p s c)
-  statement_node-ends cx (While p c s) = reads (λ t. while_turns-ends (suc t.fuel) cx p c s)
+  statement_node-ends cx (DoWhile p s c) = reads (λ t. do_turns-ends cx (suc t.fuel) p s c)
+  statement_node-ends cx (While p c s) = reads (λ t. while_turns-ends cx (suc t.fuel) p c s)
   statement_node-ends cx (For p start c step s) = for_loop-ends cx p start c step s
   statement_node-ends cx (ForIn p target e s) = for_in_loop-ends cx p target e s
   statement_node-ends cx (Continue p) = stops _
