@@ -85,16 +85,16 @@ module _ {setting : ℕ → Setting} (functions : List FunctionTree) (go go' : W
 
   while_turns-agrees : (n : ℕ) (p : Place) (c : ExpressionTree) (body : StatementTree)
       → EachInExpression (right setting) xs c → EachInStatement (right setting) xs body
-      → Agrees setting z (def.while_turns by_names (bare functions) go n cx p (expression_unbound c) (statement_unbound body))
-      (def.while_turns by_slots functions go' n cx p c body)
+      → Agrees setting z (def.while_turns by_names (bare functions) go cx n p (expression_unbound c) (statement_unbound body))
+      (def.while_turns by_slots functions go' cx n p c body)
   while_turns-agrees zero p c body r q = fails _ p
   while_turns-agrees (suc n) p c body r q =
       visits c r onto (λ v. either (truth_of v) (turns_on value.Undefined is_here (executes body q) (while_turns-agrees n p c body r q)) nothing_comes)
 
   do_turns-agrees : (n : ℕ) (p : Place) (body : StatementTree) (c : ExpressionTree) → EachInStatement (right setting) xs body
       → EachInExpression (right setting) xs c
-      → Agrees setting z (def.do_turns by_names (bare functions) go n cx p (statement_unbound body) (expression_unbound c))
-      (def.do_turns by_slots functions go' n cx p body c)
+      → Agrees setting z (def.do_turns by_names (bare functions) go cx n p (statement_unbound body) (expression_unbound c))
+      (def.do_turns by_slots functions go' cx n p body c)
   do_turns-agrees zero p body c r q = fails _ p
   do_turns-agrees (suc n) p body c r q =
       turns_on value.Undefined is_here (executes body r) (visits c q onto (λ v. either (truth_of v) (do_turns-agrees n p body c r q) nothing_comes))
@@ -121,8 +121,8 @@ module _ {setting : ℕ → Setting} (functions : List FunctionTree) (go go' : W
   for_turns-agrees : (n : ℕ) (p : Place) (c step : OptionalExpression) (body : StatementTree)
       → EachInOptional (right setting) xs c → EachInOptional (right setting) xs step
       → EachInStatement (right setting) xs body
-      → Agrees setting z (def.for_turns by_names (bare functions) go n cx p (optional_unbound c) (optional_unbound step) (statement_unbound body))
-      (def.for_turns by_slots functions go' n cx p c step body)
+      → Agrees setting z (def.for_turns by_names (bare functions) go cx n p (optional_unbound c) (optional_unbound step) (statement_unbound body))
+      (def.for_turns by_slots functions go' cx n p c step body)
   for_turns-agrees zero p c step body r q s = fails _ p
   for_turns-agrees (suc n) p c step body r q s = holds-agrees c r onto (λ v. either (truth_of v)
       (turns_on value.Undefined is_here (executes body s) (evaluated_if-agrees step q then for_turns-agrees n p c step body r q s)) nothing_comes)
