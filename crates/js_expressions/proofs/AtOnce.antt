@@ -19,13 +19,13 @@ use Rattle.js_evaluation.specs.Conversions as convert
 use Rattle.js_evaluation.specs.Conversions.{Call}
 use Rattle.js_frames.specs.Parts.{context_of}
 use Rattle.js_evaluation.specs.Expressions as rule
-use Rattle.js_evaluation.specs.Parts.{Within, calls, visit}
+use Rattle.js_evaluation.specs.Parts.{Within, calls}
 use Rattle.js_evaluation.specs.Scoping.{by_slots}
 use Rattle.heap_steps.specs.declared.halt.Halt.{Halt}
 use Rattle.heap_steps.specs.Works.{Works}
 use Rattle.js_machine.specs.declared.machine.Machine.{Machine}
 use Rattle.js_machine.specs.declared.now.Now.{Now}
-use Rattle.js_machine.specs.Moves.{Moves, at, functions_of, inner}
+use Rattle.js_machine.specs.Moves.{Moves, at, functions_of, inner, visited}
 use Rattle.js_machine.specs.Leaves.{Reaches}
 use Rattle.js_machine.proofs.Steps.{with_heap, works_then, works_stops}
 use Rattle.js_machine.proofs.Acting.{reached_then, reached_stops, not_reached}
@@ -149,14 +149,14 @@ module _ (m m₁ : Machine) (v : Value) (x : Operand) (xs : List Operand) (once 
   abbrev with_operand : List FunctionTree → Within → Context → Value → Does Value
   with_operand functions go cx w = convert.binary (calls go) x.op v w x.place >>= (λ u. rule.operands_from by_slots functions go cx u (operands_of xs))
 
-  from_operand : Moves (visit (inner m) (context_of m.context) x.value >>= at m with_operand) m r m' → Moves (at m (rule.operands_from by_slots) v (operands_of (x ∷ xs))) m r m'
+  from_operand : Moves (visited m x.value >>= at m with_operand) m r m' → Moves (at m (rule.operands_from by_slots) v (operands_of (x ∷ xs))) m r m'
   from_operand k = let o = takes_both x.op v once in evaluated_moves m v x xs r m' (undecided x.op v o.not_or o.not_and)
       (subst (λ (q : Does Value). Moves (q >>= (λ u. at m (rule.operands_from by_slots) u (operands_of xs))) m r m') (sym (operand_else (functions_of m) (inner m) (context_of m.context) x.op v x o.not_or o.not_and)) k)
 
-  pub operand_then : (w : Value) → Reaches (visit (inner m) (context_of m.context) x.value) m (Ok (Some w)) m₁ → Moves (at m₁ with_operand w) m₁ r m' → Moves (at m (rule.operands_from by_slots) v (operands_of (x ∷ xs))) m r m'
-  operand_then w k goes = from_operand (reached_then (visit (inner m) (context_of m.context) x.value) with_operand m m₁ w r m' k goes)
+  pub operand_then : (w : Value) → Reaches (visited m x.value) m (Ok (Some w)) m₁ → Moves (at m₁ with_operand w) m₁ r m' → Moves (at m (rule.operands_from by_slots) v (operands_of (x ∷ xs))) m r m'
+  operand_then w k goes = from_operand (reached_then (visited m x.value) with_operand m m₁ w r m' k goes)
 
-  pub operand_worked : (w u : Value) (h : HeapView) → ((call : Call) → converted_object call x.op v w ≡ None) → Reaches (visit (inner m) (context_of m.context) x.value) m (Ok (Some w)) m₁
+  pub operand_worked : (w u : Value) (h : HeapView) → ((call : Call) → converted_object call x.op v w ≡ None) → Reaches (visited m x.value) m (Ok (Some w)) m₁
       → ((call : Call) → Works (convert.operated call (operator_value x.op v w) x.place) m₁.state.heap (Ok u) h)
       → Moves (at m₁ (rule.operands_from by_slots) u (operands_of xs)) (with_heap m₁ h) r m' → Moves (at m (rule.operands_from by_slots) v (operands_of (x ∷ xs))) m r m'
   operand_worked w u h none k works goes = operand_then w k
@@ -168,16 +168,16 @@ module _ (m m₁ : Machine) (v : Value) (x : Operand) (xs : List Operand) (once 
   with_object functions go cx object = convert.to_primitive (calls go) convert.number_methods (value.Object object) x.place
       >>= (λ w. convert.operated (calls go) (operator_value x.op v w) x.place >>= (λ u. rule.operands_from by_slots functions go cx u (operands_of xs)))
 
-  pub operand_converted : (w : Value) (object : ObjectId) → ((call : Call) → converted_object call x.op v w ≡ Some object) → Reaches (visit (inner m) (context_of m.context) x.value) m (Ok (Some w)) m₁
+  pub operand_converted : (w : Value) (object : ObjectId) → ((call : Call) → converted_object call x.op v w ≡ Some object) → Reaches (visited m x.value) m (Ok (Some w)) m₁
       → Moves (at m₁ with_object object) m₁ r m' → Moves (at m (rule.operands_from by_slots) v (operands_of (x ∷ xs))) m r m'
   operand_converted w object some k goes = operand_then w k
       (subst (λ (q : Does Value). Moves (q >>= (λ y. at m₁ (rule.operands_from by_slots) y (operands_of xs))) m₁ r m') (sym (binary_converted (calls (inner m₁)) x.op v x.place once w object (some (calls (inner m₁))))) goes)
 
 module _ (m m₁ : Machine) (v : Value) (x : Operand) (xs : List Operand) (once : is_at_once x.op v ≡ true) (r : Result Now Halt) (e : Halt) (i : IsErrAnd r (λ y. y ≡ e)) where
-  pub operand_stops : Reaches (visit (inner m) (context_of m.context) x.value) m (Err e) m₁ → Moves (at m (rule.operands_from by_slots) v (operands_of (x ∷ xs))) m r m₁
-  operand_stops k = from_operand m m₁ v x xs once r m₁ (reached_stops (visit (inner m) (context_of m.context) x.value) (with_operand m m₁ v x xs once r m₁) m m₁ r e i k)
+  pub operand_stops : Reaches (visited m x.value) m (Err e) m₁ → Moves (at m (rule.operands_from by_slots) v (operands_of (x ∷ xs))) m r m₁
+  operand_stops k = from_operand m m₁ v x xs once r m₁ (reached_stops (visited m x.value) (with_operand m m₁ v x xs once r m₁) m m₁ r e i k)
 
-  pub operation_stops : (w : Value) (h : HeapView) → ((call : Call) → converted_object call x.op v w ≡ None) → Reaches (visit (inner m) (context_of m.context) x.value) m (Ok (Some w)) m₁
+  pub operation_stops : (w : Value) (h : HeapView) → ((call : Call) → converted_object call x.op v w ≡ None) → Reaches (visited m x.value) m (Ok (Some w)) m₁
       → ((call : Call) → Works (convert.operated call (operator_value x.op v w) x.place) m₁.state.heap (Err e) h)
       → Moves (at m (rule.operands_from by_slots) v (operands_of (x ∷ xs))) m r (with_heap m₁ h)
   operation_stops w h none k works = operand_then m m₁ v x xs once r (with_heap m₁ h) w k
@@ -185,6 +185,6 @@ module _ (m m₁ : Machine) (v : Value) (x : Operand) (xs : List Operand) (once 
       (works_stops _ _ m₁ h r e i (works (calls (inner m₁)))))
 
 -- an operand that isn't had at once
-pub operand_visited : (m m₁ : Machine) (v : Value) (x : Operand) (xs : List Operand) (r : Result Now Halt) (m' : Machine) → Reaches (visit (inner m) (context_of m.context) x.value) m (Ok None) m₁
+pub operand_visited : (m m₁ : Machine) (v : Value) (x : Operand) (xs : List Operand) (r : Result Now Halt) (m' : Machine) → Reaches (visited m x.value) m (Ok None) m₁
     → Moves (at m₁ (rule.operands_from by_slots) v (operands_of (x ∷ xs))) m₁ r m' → Moves (at m (rule.operands_from by_slots) v (operands_of (x ∷ xs))) m r m'
-operand_visited m m₁ v x xs r m' k goes = not_reached (visit (inner m) (context_of m.context) x.value) (λ functions go cx. rule.operands_from by_slots functions go cx v (operands_of (x ∷ xs))) m m₁ r m' k goes
+operand_visited m m₁ v x xs r m' k goes = not_reached (visited m x.value) (λ functions go cx. rule.operands_from by_slots functions go cx v (operands_of (x ∷ xs))) m m₁ r m' k goes

@@ -21,7 +21,7 @@ use Rattle.js_frames.specs.declared.expression_frame.Aim.{Aim}
 use Rattle.js_frames.specs.declared.expression_frame.Aim.TheVariants as aim
 use Rattle.js_frames.specs.Parts.{context_of}
 use Rattle.js_evaluation.specs.Expressions as rule
-use Rattle.js_evaluation.specs.Parts.{Within, calls, visit, suffix_place}
+use Rattle.js_evaluation.specs.Parts.{Within, calls, suffix_place}
 use Rattle.js_evaluation.specs.Scoping.{by_slots}
 use Rattle.js_frames.specs.RestOf.{suffixes_by}
 use Rattle.heap_steps.specs.declared.halt.Halt.{Halt}
@@ -29,7 +29,7 @@ use Rattle.heap_steps.specs.declared.halt.Halt.TheVariants as halt
 use Rattle.heap_steps.specs.Works.{Works}
 use Rattle.js_machine.specs.declared.machine.Machine.{Machine}
 use Rattle.js_machine.specs.declared.now.Now.{Now}
-use Rattle.js_machine.specs.Moves.{Moves, at, functions_of, inner}
+use Rattle.js_machine.specs.Moves.{Moves, at, functions_of, inner, visited}
 use Rattle.js_machine.specs.Leaves.{Reaches}
 use Rattle.js_machine.proofs.Steps.{with_heap, works_then, works_stops}
 use Rattle.js_machine.proofs.Acting.{reached_then, reached_stops, not_reached}
@@ -111,17 +111,17 @@ module _ (m m₁ : Machine) (purpose : Aim) (this v : Value) (p : Place) (e : Ex
   with_index functions go cx k = test_base v p >> convert.to_primitive (calls go) convert.text_methods k p
       >>= (λ key. get v (text_of key) p >>= (λ w. suffixes_by functions go cx purpose v w (suffixes_of ss)))
 
-  pub index_then : (k : Value) (m' : Machine) → Reaches (visit (inner m) (context_of m.context) e) m (Ok (Some k)) m₁ → Moves (at m₁ with_index k) m₁ r m' → Moves (at m and_then purpose this v (an_index p e) ss) m r m'
-  index_then k m' reaches goes = reached_then (visit (inner m) (context_of m.context) e) with_index m m₁ k r m' reaches goes
+  pub index_then : (k : Value) (m' : Machine) → Reaches (visited m e) m (Ok (Some k)) m₁ → Moves (at m₁ with_index k) m₁ r m' → Moves (at m and_then purpose this v (an_index p e) ss) m r m'
+  index_then k m' reaches goes = reached_then (visited m e) with_index m m₁ k r m' reaches goes
 
-  pub index_stops : (h : Halt) → IsErrAnd r (λ x. x ≡ h) → Reaches (visit (inner m) (context_of m.context) e) m (Err h) m₁ → Moves (at m and_then purpose this v (an_index p e) ss) m r m₁
-  index_stops h i reaches = reached_stops (visit (inner m) (context_of m.context) e) with_index m m₁ r h i reaches
+  pub index_stops : (h : Halt) → IsErrAnd r (λ x. x ≡ h) → Reaches (visited m e) m (Err h) m₁ → Moves (at m and_then purpose this v (an_index p e) ss) m r m₁
+  index_stops h i reaches = reached_stops (visited m e) with_index m m₁ r h i reaches
 
-  pub index_visited : (m' : Machine) → Reaches (visit (inner m) (context_of m.context) e) m (Ok None) m₁ → Moves (at m₁ and_then purpose this v (an_index p e) ss) m₁ r m' → Moves (at m and_then purpose this v (an_index p e) ss) m r m'
-  index_visited m' reaches goes = not_reached (visit (inner m) (context_of m.context) e) (λ functions go cx. and_then functions go cx purpose this v (an_index p e) ss) m m₁ r m' reaches goes
+  pub index_visited : (m' : Machine) → Reaches (visited m e) m (Ok None) m₁ → Moves (at m₁ and_then purpose this v (an_index p e) ss) m₁ r m' → Moves (at m and_then purpose this v (an_index p e) ss) m r m'
+  index_visited m' reaches goes = not_reached (visited m e) (λ functions go cx. and_then functions go cx purpose this v (an_index p e) ss) m m₁ r m' reaches goes
 
   -- a primitive value is the key
-  module _ (k : Value) (primitive : (id : ObjectId) → k ≡ value.Object id → ⊥) (reaches : Reaches (visit (inner m) (context_of m.context) e) m (Ok (Some k)) m₁) (h : HeapView) where
+  module _ (k : Value) (primitive : (id : ObjectId) → k ≡ value.Object id → ⊥) (reaches : Reaches (visited m e) m (Ok (Some k)) m₁) (h : HeapView) where
     by_key : (m' : Machine) → Moves (member v (text_of k) p >>= (λ w. at m₁ suffixes_by purpose v w (suffixes_of ss))) m₁ r m' → Moves (at m and_then purpose this v (an_index p e) ss) m r m'
     by_key m' goes = index_then k m' reaches (subst (λ (q : Does Value). Moves (test_base v p >> q >>= (λ key. get v (text_of key) p >>= (λ w. at m₁ suffixes_by purpose v w (suffixes_of ss)))) m₁ r m')
         (sym (is_primitive (calls (inner m₁)) convert.text_methods k p primitive)) goes)

@@ -16,7 +16,7 @@ use Rattle.js_evaluation.specs.Objects.{Context}
 use Rattle.js_evaluation.specs.Expressions.{expression_node}
 use Rattle.js_evaluation.specs.Evaluation.{node, evaluation}
 use Rattle.js_frames.specs.Parts.{context_of}
-use Rattle.js_evaluation.specs.Parts.{Within, visit, visit_target, Part, expression_part, target_part, part_place}
+use Rattle.js_evaluation.specs.Parts.{Within, Part, expression_part, target_part, part_place}
 use Rattle.js_frames.specs.RestOf.{room}
 use Rattle.heap_steps.specs.declared.halt.Halt.{Halt}
 use Rattle.heap_steps.specs.declared.halt.Halt.TheVariants as halt
@@ -25,7 +25,7 @@ use Rattle.heap_steps.proofs.Chains.{chained, stops}
 use Rattle.js_machine.specs.declared.machine.Machine.{Machine}
 use Rattle.js_machine.specs.declared.machine.State.{State}
 use Rattle.js_machine.specs.declared.now.Now.{Now}
-use Rattle.js_machine.specs.Moves.{Moves, Light, at, beside_of, functions_of, inner, run_state, weight}
+use Rattle.js_machine.specs.Moves.{Moves, Light, at, beside_of, functions_of, inner, run_state, weight, visited, visited_target}
 use Rattle.js_machine.specs.Acts.{Acts}
 use Rattle.js_machine.specs.Leaves.{Reaches}
 use Rattle.js_machine.proofs.Steps.{charge_some, begun_some, begun_none, begun_spent}
@@ -179,38 +179,38 @@ module _ (m : Machine) (p : Place) (less : ℕ) (taken : less + 1 ≡ m.state.fu
   behind h = with_state m (record m.state { fuel = less; heap = h })
 
   pub name_has : (x : BoundName) (h : HeapView) (v : Value) → Works (read_name (context_of m.context) x p) m.state.heap (Ok v) h
-      → Reaches (visit (inner m) (context_of m.context) (Name p x)) m (Ok (Some v)) (behind h)
+      → Reaches (visited m (Name p x)) m (Ok (Some v)) (behind h)
   name_has x h v w = has_value m (expression_part (context_of m.context) (Name p x)) (read_name (context_of m.context) x p)
       (node_name (functions_of m) below (context_of m.context) p x) less taken some h v w
 
   pub name_stops : (x : BoundName) (h : HeapView) (r : Result (Option Value) Halt) (e : Halt) → IsErrAnd r (λ x. x ≡ e)
-      → Works (read_name (context_of m.context) x p) m.state.heap (Err e) h → Reaches (visit (inner m) (context_of m.context) (Name p x)) m r (behind h)
+      → Works (read_name (context_of m.context) x p) m.state.heap (Err e) h → Reaches (visited m (Name p x)) m r (behind h)
   name_stops x h r e i w = has_none m (expression_part (context_of m.context) (Name p x)) (read_name (context_of m.context) x p)
       (node_name (functions_of m) below (context_of m.context) p x) less taken some h r e i w
 
-  pub number_has : (n : ℤ) → Reaches (visit (inner m) (context_of m.context) (Number p n)) m (Ok (Some (value.Number n))) (behind m.state.heap)
+  pub number_has : (n : ℤ) → Reaches (visited m (Number p n)) m (Ok (Some (value.Number n))) (behind m.state.heap)
   number_has n = has_value m (expression_part (context_of m.context) (Number p n)) (pure (value.Number n))
       (node_number (functions_of m) below (context_of m.context) p n) less taken some m.state.heap (value.Number n) (pure_works (value.Number n) m.state.heap)
 
   pub text_has : (t : List ℕ) → Works (test_text t p) m.state.heap (Ok tt) m.state.heap
-      → Reaches (visit (inner m) (context_of m.context) (Characters p t)) m (Ok (Some (value.Text t))) (behind m.state.heap)
+      → Reaches (visited m (Characters p t)) m (Ok (Some (value.Text t))) (behind m.state.heap)
   text_has t w = has_value m (expression_part (context_of m.context) (Characters p t)) (test_text t p >> pure (value.Text t))
       (node_text (functions_of m) below (context_of m.context) p t) less taken some m.state.heap (value.Text t)
       (chained _ _ _ _ tt _ _ w (pure_works (value.Text t) m.state.heap))
 
   pub text_stops : (t : List ℕ) (r : Result (Option Value) Halt) (e : Halt) → IsErrAnd r (λ x. x ≡ e) → Works (test_text t p) m.state.heap (Err e) m.state.heap
-      → Reaches (visit (inner m) (context_of m.context) (Characters p t)) m r (behind m.state.heap)
+      → Reaches (visited m (Characters p t)) m r (behind m.state.heap)
   text_stops t r e i w = has_none m (expression_part (context_of m.context) (Characters p t)) (test_text t p >> pure (value.Text t))
       (node_text (functions_of m) below (context_of m.context) p t) less taken some m.state.heap r e i (stops _ _ _ _ (Err e) e refl w)
 
-  pub target_has : (x : BoundName) → Reaches (visit_target (inner m) (context_of m.context) (Name p x)) m (Ok (Some value.Undefined)) (behind m.state.heap)
+  pub target_has : (x : BoundName) → Reaches (visited_target m (Name p x)) m (Ok (Some value.Undefined)) (behind m.state.heap)
   target_has x = has_value m (target_part (context_of m.context) (Name p x)) (pure value.Undefined)
       (node_target (functions_of m) below (context_of m.context) p x) less taken some m.state.heap value.Undefined (pure_works value.Undefined m.state.heap)
 
 -- what is said of a node is said of the expression that it is
 module _ (m : Machine) (r : Result (Option Value) Halt) (m' : Machine) (node e : ExpressionTree) (is : node ≡ e) where
-  pub value_of : Reaches (visit (inner m) (context_of m.context) node) m r m' → Reaches (visit (inner m) (context_of m.context) e) m r m'
-  value_of k = subst (λ (x : ExpressionTree). Reaches (visit (inner m) (context_of m.context) x) m r m') is k
+  pub value_of : Reaches (visited m node) m r m' → Reaches (visited m e) m r m'
+  value_of k = subst (λ (x : ExpressionTree). Reaches (visited m x) m r m') is k
 
-  pub target_of : Reaches (visit_target (inner m) (context_of m.context) node) m r m' → Reaches (visit_target (inner m) (context_of m.context) e) m r m'
-  target_of k = subst (λ (x : ExpressionTree). Reaches (visit_target (inner m) (context_of m.context) x) m r m') is k
+  pub target_of : Reaches (visited_target m node) m r m' → Reaches (visited_target m e) m r m'
+  target_of k = subst (λ (x : ExpressionTree). Reaches (visited_target m x) m r m') is k

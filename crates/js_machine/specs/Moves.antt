@@ -18,7 +18,7 @@ use Rattle.js_evaluation.specs.Parts as def
 use Rattle.js_evaluation.specs.Evaluation.{outer_scope, node, evaluation}
 use Rattle.js_frames.specs.declared.frame.Frame.{Frame}
 use Rattle.js_frames.specs.Parts.{context_of}
-use Rattle.js_evaluation.specs.Parts.{Within, part_place}
+use Rattle.js_evaluation.specs.Parts.{Within, part_place, visit, visit_target}
 use Rattle.js_frames.specs.RestOf.{rest_of_frame, room, within, rest_of}
 use Rattle.heap_steps.specs.declared.halt.Halt.{Halt}
 use Rattle.heap_steps.specs.declared.halt.Halt.TheVariants as halt
@@ -50,6 +50,13 @@ at m rule = rule (functions_of m) (inner m) (context_of m.context)
 -- a rule that is the same in each context
 abbrev pub anywhere : {A : Type 0} → Machine → (List FunctionTree → Within → A) → A
 anywhere m rule = rule (functions_of m) (inner m)
+
+-- an expression within that node, as it is read and as the target of a write
+abbrev pub visited : Machine → ExpressionTree → Does Value
+visited m e = visit (inner m) (context_of m.context) e
+
+abbrev pub visited_target : Machine → ExpressionTree → Does Value
+visited_target m e = visit_target (inner m) (context_of m.context) e
 
 -- A part, and then what the open parts make of its end; last: what comes after the outermost.
 abbrev pub left : AfterValue → Machine → Does Value → RunTree RunEnd

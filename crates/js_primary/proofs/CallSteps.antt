@@ -11,14 +11,13 @@ use Rattle.js_evaluation.specs.Objects.{Context}
 use Rattle.js_frames.specs.declared.expression_frame.OpenCall.{OpenCall}
 use Rattle.js_frames.specs.declared.expression_frame.SuffixFrame.TheVariants as of_suffix
 use Rattle.js_frames.specs.declared.frame.Frame.TheVariants as frame
-use Rattle.js_evaluation.specs.Parts.{Within, calls, visit}
-use Rattle.js_frames.specs.Parts.{context_of}
+use Rattle.js_evaluation.specs.Parts.{Within, calls}
 use Rattle.js_frames.specs.RestOf.{suffixes_by}
 use Rattle.heap_steps.specs.declared.halt.Halt.{Halt}
 use Rattle.heap_steps.specs.Works.{called_object}
 use Rattle.js_machine.specs.declared.machine.Machine.{Machine}
 use Rattle.js_machine.specs.declared.now.Now.{Now}
-use Rattle.js_machine.specs.Moves.{Moves, at, called, run_state, inner}
+use Rattle.js_machine.specs.Moves.{Moves, at, called, run_state, inner, visited}
 use Rattle.js_machine.specs.Leaves.{Reaches}
 use Rattle.js_machine.proofs.Acting.{reached_then, reached_stops, not_reached}
 use Rattle.js_primary.specs.Calls.{call_value, arguments_from}
@@ -53,16 +52,16 @@ module _ (m m₁ : Machine) (call : OpenCall) (done : List Value) (e : Expressio
   abbrev with_argument : List FunctionTree → Within → Context → Value → Does Value
   with_argument functions go cx v = arguments_from functions go cx call (done ++ v ∷ []) left
 
-  pub argument_then : (v : Value) (m' : Machine) → Reaches (visit (inner m) (context_of m.context) e) m (Ok (Some v)) m₁ → Moves (at m₁ arguments_from call (done ++ v ∷ []) left) m₁ r m'
+  pub argument_then : (v : Value) (m' : Machine) → Reaches (visited m e) m (Ok (Some v)) m₁ → Moves (at m₁ arguments_from call (done ++ v ∷ []) left) m₁ r m'
       → Moves (at m arguments_from call done (an_expression e left)) m r m'
-  argument_then v m' k goes = reached_then (visit (inner m) (context_of m.context) e) with_argument m m₁ v r m' k goes
+  argument_then v m' k goes = reached_then (visited m e) with_argument m m₁ v r m' k goes
 
-  pub argument_stops : (h : Halt) → IsErrAnd r (λ x. x ≡ h) → Reaches (visit (inner m) (context_of m.context) e) m (Err h) m₁
+  pub argument_stops : (h : Halt) → IsErrAnd r (λ x. x ≡ h) → Reaches (visited m e) m (Err h) m₁
       → Moves (at m arguments_from call done (an_expression e left)) m r m₁
-  argument_stops h i k = reached_stops (visit (inner m) (context_of m.context) e) with_argument m m₁ r h i k
+  argument_stops h i k = reached_stops (visited m e) with_argument m m₁ r h i k
 
   -- where it is not, it is visited
-  pub argument_visited : (m' : Machine) → Reaches (visit (inner m) (context_of m.context) e) m (Ok None) m₁ → Moves (at m₁ arguments_from call done (an_expression e left)) m₁ r m'
+  pub argument_visited : (m' : Machine) → Reaches (visited m e) m (Ok None) m₁ → Moves (at m₁ arguments_from call done (an_expression e left)) m₁ r m'
       → Moves (at m arguments_from call done (an_expression e left)) m r m'
   argument_visited m' k goes =
-      not_reached (visit (inner m) (context_of m.context) e) (λ functions go cx. arguments_from functions go cx call done (an_expression e left)) m m₁ r m' k goes
+      not_reached (visited m e) (λ functions go cx. arguments_from functions go cx call done (an_expression e left)) m m₁ r m' k goes

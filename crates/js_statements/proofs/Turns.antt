@@ -15,14 +15,13 @@ use Rattle.js_frames.specs.declared.statement_frame.LoopFrame.TheVariants as of_
 use Rattle.js_frames.specs.declared.statement_frame.WhileLoop.{WhileLoop}
 use Rattle.js_frames.specs.declared.statement_frame.ForLoop.{ForLoop}
 use Rattle.js_evaluation.specs.Statements as rule
-use Rattle.js_evaluation.specs.Parts.{Within, visit}
+use Rattle.js_evaluation.specs.Parts.{Within}
 use Rattle.js_evaluation.specs.Scoping.{by_slots}
-use Rattle.js_frames.specs.Parts.{context_of}
 use Rattle.js_frames.specs.RestOf.{while_turns, do_turns, for_turns, for_next}
 use Rattle.heap_steps.specs.declared.halt.Halt.{Halt}
 use Rattle.js_machine.specs.declared.machine.Machine.{Machine}
 use Rattle.js_machine.specs.declared.now.Now.{Now}
-use Rattle.js_machine.specs.Moves.{Moves, at, executed, inner}
+use Rattle.js_machine.specs.Moves.{Moves, at, executed, visited}
 use Rattle.js_statements.proofs.Parts.{moves_by}
 
 module _ (functions : List FunctionTree) (go : Within) (cx : Context) where
@@ -40,7 +39,7 @@ module _ (m : Machine) (n : ℕ) (l : ForLoop) where
   -- a condition that is left out holds
   abbrev held : OptionalExpression → Does Value
   held absent = pure (value.Bool true)
-  held (present e) = visit (inner m) (context_of m.context) e
+  held (present e) = visited m e
 
   -- the body, where the condition has a value that is true
   abbrev body_if : Value → Does Value
