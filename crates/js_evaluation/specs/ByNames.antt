@@ -1,5 +1,6 @@
--- Names and scopes by names. A scope is an environment record: a list of names, each with a value, and the scope around it
--- (ECMA-262 5.1, section 10.2.1). Its values stand in the heap, and its names beside it, in the same order.
+-- Names and scopes by names. A scope is a lexical environment: a record of names, each with a value, and the scope
+-- around it (ECMA-262 5.1, section 10.2). Its values stand in the heap, and its names beside it, in the same order.
+-- Where a name is bound in the resolved script isn't looked at.
 use Rattle.std.specs.Prelude.{false, ℕ, zero, suc, List, [], ◌∷◌, ◌++◌, length, slice_get, Option, Some, None, Result, Ok, Err, if◌then◌else◌}
 use Rattle.std.specs.Str.{bytes_eq}
 use Rattle.js_tree.specs.declared.place.Place.{Place}
@@ -19,8 +20,9 @@ use Rattle.js_evaluation.specs.Objects.{Context, global_id, global_value, found_
 
 -- ---- a look-up (8.7, 10.2.2.1)
 
--- Where a name stands in a run, as the base of a reference says it: in this place of this scope; as the own name of a
--- function expression, in this scope; or in the global object.
+-- Where a name stands in a run, which is the base of its reference: in this place of this scope; in this scope as the
+-- own name of a function expression, whose binding is immutable (10.2.1.1.7); or in the global object, where that has
+-- it.
 pub data Standing : Type 0 where
   in_scope : ScopeId → ℕ → Standing
   in_own : ScopeId → Standing
@@ -36,8 +38,9 @@ found_in i None x further = further
 found_in i (Some (named names)) x further = place_or i (place_of x names) further
 found_in i (Some (itself y)) x further = if bytes_eq x y then in_own i else further
 
--- A name is looked up in a scope, and then in the scope around it; behind the outermost stands the global object. No
--- scope has as many scopes around it as there are scopes.
+-- A name is looked up in a scope, and then in the scope around it; behind the outermost, which has no names, stands the
+-- global object (10.2.3). No scope has as many scopes around it as there are scopes. The standard finds the place of a
+-- name once, before what is written is evaluated; no name comes into a scope or leaves it, so it is the same.
 abbrev pub found_from : ℕ → List Scope → HeapView → Option ScopeId → List ℕ → Standing
 found_from zero names h o x = in_global
 found_from (suc n) names h None x = in_global
@@ -64,7 +67,7 @@ read_or_undefined_at x place at = read_at x place at
 abbrev pub read_or_undefined : Context → BoundName → Place → Does Value
 read_or_undefined cx x place = reading (λ s. read_or_undefined_at x.name place (standing s cx.scope x.name))
 
--- the own name of a function keeps its value (10.2.1.1, 13)
+-- the own name of a function keeps its value (10.2.1.1.3, 13)
 abbrev pub write_at : List ℕ → Value → Place → Standing → Does (Unit {0})
 write_at x v place (in_scope scope slot) = write_slot scope slot v
 write_at x v place (in_own scope) = pure tt
@@ -73,7 +76,7 @@ write_at x v place in_global = put_on global_id x v place
 abbrev pub write_name : Context → BoundName → Value → Place → Does (Unit {0})
 write_name cx x v place = reading (λ s. write_at x.name v place (standing s cx.scope x.name))
 
--- names of scopes stay (11.4.1)
+-- names of scopes stay (10.2.1.1.5, 11.4.1)
 abbrev pub delete_at : List ℕ → Place → Standing → Does Value
 delete_at x place in_global = delete_property (Object global_id) x place
 delete_at x place at = pure (Truth false)

@@ -1,5 +1,5 @@
 -- Names and scopes as code has them: a name of a resolved script says in which slot of which scope its value stands, or
--- that it is global. So the names of a scope need not be kept.
+-- that it is global. So the names of a scope need not be kept. No name of a resolved script is unbound.
 use Rattle.std.specs.Prelude.{ℕ, zero, suc, List, false, Option, Some, None}
 use Rattle.js_tree.specs.declared.place.Place.{Place}
 use Rattle.js_tree.specs.declared.bound.Bound.{Bound}

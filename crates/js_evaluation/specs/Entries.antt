@@ -1,5 +1,6 @@
 -- Entries: the call of a function, of a native, `new`, and the load of a script (ECMA-262 5.1, sections 10.4, 10.5,
--- 13.2 and 14). Each rule is what comes behind the charge for the entry.
+-- 13.2 and 14). Each rule is what comes behind the charge for the entry. What is no function, and a number that no
+-- function has, come up in no run.
 use Rattle.std.specs.Prelude.{ℕ, pos, List, [], ◌∷◌, length, map, Bool, true, false, ◌||◌, if◌then◌else◌, Option, Some, None, slice_get, codes}
 use Rattle.std.specs.List.{list_any}
 use Rattle.std.specs.Str.{bytes_eq}
@@ -51,7 +52,7 @@ functions_from scoping functions cx p (a_statement (DeclareNumbered q x n) ss) =
     function_object functions n cx.scope p >>= (λ f. scoping.write_name cx x f p) >> functions_from scoping functions cx p ss
 functions_from scoping functions cx p (a_statement s ss) = functions_from scoping functions cx p ss
 
--- the object of the arguments (10.6)
+-- the object of the arguments (10.6; profile: it has no `callee`, and isn't linked to the parameters)
 abbrev pub arguments_object : Place → List Value → Does Value
 arguments_object p vs = do
   object ← make kind.Plain (Some (built_in_object built_in.ObjectPrototype)) p
@@ -128,7 +129,8 @@ global_variables p (name ∷ names) = reading (λ s. declared_unless (found_of s
 module _ (scoping : Scoping) (functions : List FunctionTree) (go : Within) where
   -- ---- a function (13.2.1)
 
-  -- its scope, the parameters, the functions, the object of the arguments, and then its body
+  -- its scope, in which its variables stand undefined; the parameters, the functions, the object of the arguments,
+  -- which can be seen only where the body mentions it; and then its body
   abbrev pub entered_in : ScopeId → Value → List Value → Place → List BoundName → List (List ℕ) → Statements → Does Value
   entered_in scope this vs p parameters names ss =
       let cx : Context = record { scope = scope; this = this } in

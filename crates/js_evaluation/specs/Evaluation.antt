@@ -1,4 +1,5 @@
--- Evaluation: what each part of a script does, with so much room left in depth; and one run of a script, by its names.
+-- Evaluation: what each part of a script does, with so much room left in depth; and one run of a script, by its names
+-- or by slots.
 use Rattle.std.specs.Prelude.{ℕ, zero, suc, List, [], ◌∷◌, take, Option, Some, None, Ok, Err, if◌then◌else◌, codes}
 use Rattle.js_tree.specs.declared.place.Place.{Place}
 use Rattle.js_tree.specs.Tree.{FunctionTree, StatementTree, Statements}
@@ -66,7 +67,7 @@ pub record Entry : Type 0 where
   pub settings : PacSettings
   pub fuel : ℕ
 
--- the outermost scope
+-- the outermost scope, which has no names: behind it stands the global object (10.2.3)
 abbrev pub outer_scope : ScopeId
 outer_scope = record { 0 = 0 }
 
@@ -126,9 +127,6 @@ thrown_text h v = text_of v
 pub data Ending : Type 0 where
   Gives : List ℕ → Ending
   Fails : Fault → Ending
-
-abbrev pub plain_fault : Fault → Ending
-plain_fault f = Fails f
 
 abbrev pub not_a_string : Ending
 not_a_string = Fails (record { code = code.NotAString; place = outside; detail = [] })

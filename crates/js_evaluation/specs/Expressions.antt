@@ -1,4 +1,6 @@
--- What expressions do (ECMA-262 5.1, section 11). Each rule is what comes behind the charge for its node.
+-- What expressions do (ECMA-262 5.1, section 11). Each rule is what comes behind the charge for its node. A visit gives
+-- a value, so GetValue (8.7.1) is part of each rule; where the standard needs the reference, an expression is visited
+-- as a target. Functions stand by number, and the parser has tested targets, so some cases are met by no script.
 use Rattle.std.specs.Prelude.{ℕ, ◌+◌, pos, neg_ℤ, ◌-ℤ◌, List, [], ◌∷◌, ◌++◌, Bool, true, false, not, if◌then◌else◌, Option, Some, None, slice_get, codes}
 use Rattle.std.specs.Fmt.{decimal}
 use Rattle.js_tree.specs.declared.place.Place.{Place}
@@ -38,7 +40,7 @@ pub data Reference : Type 0 where
   to_name : Place → BoundName → Reference
   to_property : Place → Value → List ℕ → Reference
 
--- The reference of a target that was evaluated: the key is what its evaluation gave.
+-- The reference of a target that was evaluated: the key is what its evaluation gave, which for a name says nothing.
 abbrev pub referred : ExpressionTree → Value → Value → Reference
 referred (Name p x) key base = to_name p x
 referred (Suffixed p e ss) key base = to_property (last_place p ss) base (text_of key)
@@ -66,8 +68,8 @@ end_of_array p array count false = pure (value.Object array)
 abbrev pub text_literal : Place → List ℕ → Does Value
 text_literal p t = test_text t p >> pure (value.Text t)
 
--- The `this` of a call of an expression as it stands: the base of the reference that it is, where it is one (11.2.3).
--- Brackets around it change nothing (11.1.6).
+-- The `this` of a call of an expression as it stands: the base of the reference that it is, where it is one (11.2.3),
+-- and else the global object, for built-in functions too (10.4.3; profile). Brackets around it change nothing (11.1.6).
 abbrev pub this_behind : ExpressionTree → Does Value
 this_behind (Suffixed p e ss) = the_base
 this_behind e = pure global_object
@@ -101,7 +103,7 @@ module _ (scoping : Scoping) (functions : List FunctionTree) (go : Within) where
   abbrev pub object_literal : Context → Place → Properties → Does Value
   object_literal cx p properties = make kind.Plain (Some (built_in_object built_in.ObjectPrototype)) p >>= (λ object. properties_from cx p object properties)
 
-  -- A function expression with a name of its own has a scope for it (13).
+  -- A function expression with a name of its own has a scope for it, in which its value stands first (13).
   abbrev pub function_value_of : Context → Place → ℕ → Option FunctionTree → Does Value
   function_value_of cx p n (Some (a_function (Some x) parameters names body)) = do
     scope ← scoping.make_scope (itself x.name) cx.scope p
@@ -196,7 +198,7 @@ module _ (scoping : Scoping) (functions : List FunctionTree) (go : Within) where
   type_of cx (Name p x) = visit_target go cx (Name p x) >> scoping.read_or_undefined cx x p
   type_of cx e = visit go cx e
 
-  -- `~` (11.4.8)
+  -- the operators in front of an operand (11.4)
   abbrev pub unary_value : Context → Place → UnaryOp → ExpressionTree → Does Value
   unary_value cx p unary.Delete e = deleted cx p e
   unary_value cx p unary.Void e = visit go cx e >> pure value.Undefined

@@ -9,8 +9,8 @@ use Rattle.js_evaluation.specs.State.{Does}
 use Rattle.js_evaluation.specs.Objects.{Context}
 use Rattle.js_evaluation.specs.Conversions.{Call}
 
--- What can be open: an expression, an expression as a target, a statement, a call, a construction, the load of a
--- script.
+-- What can be open: an expression; one up to its reference, as a target; a statement; a call, by its function, `this`,
+-- arguments and place; a construction; the load of a script.
 pub data Part : Type 0 where
   expression_part : Context → ExpressionTree → Part
   target_part : Context → ExpressionTree → Part
@@ -19,8 +19,9 @@ pub data Part : Type 0 where
   construct_part : ObjectId → List Value → Place → Part
   load_part : ScopeId → Statements → Part
 
--- ---- what evaluation makes of the parts within
+-- ---- the parts within
 
+-- evaluation of them, with room for one part less
 abbrev pub Within : Type 0
 Within = Part → Does Value
 
@@ -28,7 +29,7 @@ module _ (go : Within) where
   abbrev pub visit : Context → ExpressionTree → Does Value
   visit cx e = go (expression_part cx e)
 
-  -- an expression as the target of a write
+  -- an expression up to its reference: its key is given, and its base stays
   abbrev pub visit_target : Context → ExpressionTree → Does Value
   visit_target cx e = go (target_part cx e)
 

@@ -207,6 +207,13 @@ functions =
     row 1000 (doing (codes "var s = ''; try { null.x; } catch (e) { for (var k in e) s += k; return s + delete e.message + e.message; }")) (gives (codes "true")) ∷
     -- a parameter or a variable hides the own name of a function expression
     row 1000 (doing (codes "var f = function g(g) { return g; }; return f('p');")) (gives (codes "p")) ∷
+    row 1000 (doing (codes "return (function g() { var g = 'v'; return g; })();")) (gives (codes "v")) ∷
+    -- functions that are made in a loop share the variable around them
+    row 1000 (doing (codes "var a = [], i; for (i = 0; i < 2; i++) a[i] = function () { return i; }; return '' + a[0]() + a[1]();")) (gives (codes "22")) ∷
+    -- each time a handler is run it has a scope of its own
+    row 1000 (doing (codes "var a = [], i; for (i = 0; i < 2; i++) try { throw i; } catch (e) { a[i] = function () { return e; }; } return '' + a[0]() + a[1]();")) (gives (codes "01")) ∷
+    -- a global name that is deleted before it is written is made anew
+    row 1000 (doing (codes "x = 1; x = (delete x, 2); return '' + x;")) (gives (codes "2")) ∷
     []
 
 pub functions-hold : AreRight functions

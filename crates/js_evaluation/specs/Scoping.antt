@@ -1,5 +1,6 @@
--- How a run has its scopes: the words by which rules read and write names and make scopes. The rules are written once over
--- these. A run by names is what a script means; one by slots is the same, and is what code does.
+-- How a run has its scopes: the words by which rules read and write names and make scopes. The rules are written once
+-- over these. A run by names is what a script means. The run of the resolved script by slots is what code does, and is
+-- the same (js_law_names).
 use Rattle.std.specs.Prelude.{ℕ, List, [], ◌∷◌}
 use Rattle.js_tree.specs.declared.place.Place.{Place}
 use Rattle.js_tree.specs.declared.bound.BoundName.{BoundName}
@@ -15,13 +16,14 @@ use Rattle.js_evaluation.specs.BySlots as slots
 
 pub record Scoping : Type 0 where
   pub read_name : Context → BoundName → Place → Does Value
+  -- of which `typeof` asks
   pub read_or_undefined : Context → BoundName → Place → Does Value
   pub write_name : Context → BoundName → Value → Place → Does (Unit {0})
   pub delete_name : Context → BoundName → Place → Does Value
   pub make_scope : Scope → ScopeId → Place → Does ScopeId
   -- the names of the scope of a function
   pub names_within : FunctionTree → List (List ℕ)
-  -- the names beside the outermost scope, where a run has names
+  -- the names of the one scope that a run begins with: none, since global names are properties
   pub outermost : List Scope
 
 abbrev pub by_names : Scoping

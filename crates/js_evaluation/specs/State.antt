@@ -1,4 +1,6 @@
--- The state of a run, how a run ends, and the words that its rules are written in.
+-- The state of a run, how a run ends, and the words that its rules are written in. In the standard's words a text is a
+-- String value, a native a built-in function, the kind of an object its [[Class]] and code, a listed property one that
+-- is [[Enumerable]], and a deletable one one that is [[Configurable]]. No script can catch a fault.
 use Rattle.std.specs.Prelude.{ℕ, ◌-◌, List, [], length, Bool, true, false, if◌then◌else◌, nat_lt, Option, Some, Result, Ok, Err, codes}
 use Rattle.js_tree.specs.declared.place.Place.{Place}
 use Rattle.js_binding.specs.Scopes.{Scope}
@@ -27,19 +29,20 @@ use Rattle.run_trees.specs.declared.abrupt.Abrupt.TheVariants as ending
 use Rattle.run_trees.specs.Runs.{Run, After, pure, abrupt, halt, reading, changing, ◌>>=◌, ◌>>◌}
 use Rattle.utf16_text.specs.declared.limits.TheConstants.{LONGEST_TEXT}
 
--- What a run has of its own: its heap, the fuel that is left, and the base of the reference that was evaluated last
--- (8.7), which an assignment writes to and a call has as its `this`. And what its script is told of its surroundings,
--- which no rule changes: what clocks show, and the settings of the functions of the proxy format.
+-- What a run has of its own: its heap, the fuel that is left, and the base of the suffixes that were evaluated last
+-- (8.7; behind a call the global object), which an assignment writes to and a call has as its `this`, each right behind
+-- the part that sets it. And what its script is told of its surroundings, which no rule changes: what clocks show, and
+-- the settings of the functions of the proxy format.
 pub record RunState : Type 0 where
   pub heap : HeapView
   pub fuel : ℕ
   pub base : Value
   pub now : Moments
   pub settings : PacSettings
-  -- the names of each scope of the heap, in the order in which they were made; none where names stand for slots
+  -- the names of each scope of the heap, by the scope's number; empty in a run by slots
   pub names : List Scope
 
--- the state without the names of its scopes
+-- the state without the names of its scopes, so that a run by names and one by slots end with one state
 abbrev pub nameless : RunState → RunState
 nameless s = record s { names = [] }
 
@@ -83,7 +86,7 @@ charge place = charges 1 place
 abbrev pub with_heap : HeapView → Does (Unit {0})
 with_heap h = changing (λ s. record s { heap = h })
 
--- what a refusal of the heap is as a fault
+-- what a refusal of the heap is as a fault; BadLength and Memory come from no call that is made so
 abbrev pub heap_fault : HeapAnswer → FaultCode
 heap_fault heap.StringTooLong = code.StringTooLong
 heap_fault heap.TextSpent = code.TextSpent
@@ -104,11 +107,11 @@ changed place (Err e) = fault (heap_fault e) place
 abbrev pub make : Kind → Option ObjectId → Place → Does ObjectId
 make k prototype place = reading (λ s. made place (made_of s.heap k prototype))
 
--- a new scope of so many names, each undefined
+-- a new scope of so many slots, each undefined
 abbrev pub make_scope : ℕ → ScopeId → Place → Does ScopeId
 make_scope size around place = reading (λ s. made place (scope_made_of s.heap size (Some around)))
 
--- a property with these marks, in place of one of that name
+-- a property that is listed or not and deletable or not, in place of one of that name
 abbrev pub define : ObjectId → List ℕ → Value → Bool → Bool → Place → Does (Unit {0})
 define object name v listed deletable place = reading (λ s. changed place (stored s.heap object name v (λ _. value_property v listed deletable)))
 
@@ -119,7 +122,7 @@ write_slot scope slot v = changing (λ s. record s { heap = slot_written_of s.he
 abbrev pub spend : List ℕ → Place → Does (Unit {0})
 spend text place = reading (λ s. changed place (text_spent_of s.heap (length text)))
 
--- a text that becomes a value and isn't counted is short enough
+-- a text that becomes a value and isn't counted must be short enough
 abbrev pub test_text : List ℕ → Place → Does (Unit {0})
 test_text text place = if nat_lt LONGEST_TEXT (length text) then fault code.StringTooLong place else pure tt
 

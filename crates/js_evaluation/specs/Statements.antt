@@ -27,13 +27,14 @@ use Rattle.js_evaluation.specs.Expressions.{reference, write}
 abbrev pub nothing : Does Value
 nothing = pure value.Undefined
 
--- a break or a continue of a loop or a switch is one to the innermost
+-- without labels a break is to the innermost loop or switch, and a continue to the innermost loop
 abbrev pub is_here : Unit {0} → Bool
 is_here target = true
 
 -- ---- what visits no part
 
--- Each turn costs a unit at least, so a loop has no more turns than there is fuel, and one more in which it runs out.
+-- Each turn costs a unit at least, so a loop has no more turns than there is fuel, and one more in which it runs out:
+-- the turn behind that is never begun.
 abbrev pub as_fuel_allows : (ℕ → Does Value) → Does Value
 as_fuel_allows turns = reading (λ s. turns (suc s.fuel))
 
@@ -120,7 +121,7 @@ module _ (scoping : Scoping) (functions : List FunctionTree) (go : Within) where
 
   -- ---- `for`-`in` (12.6.4)
 
-  -- what a name of the list is written to
+  -- writes a name of the list to the target
   abbrev pub named_by : Context → Place → TargetTree → List ℕ → Does (Unit {0})
   named_by cx p (target_value e) name = reference scoping functions go cx e >>= (λ r. write scoping cx r (value.Text name) p)
   named_by cx p (target_declared x o) name = scoping.write_name cx x (value.Text name) p
@@ -171,7 +172,7 @@ module _ (scoping : Scoping) (functions : List FunctionTree) (go : Within) where
 
   -- ---- `try` (12.14)
 
-  -- a handler has a scope of one name, with what was thrown
+  -- a handler has a scope of one name, in which what was thrown stands first
   abbrev pub handled : Context → Place → BoundName → StatementTree → Thrown → Does Value
   handled cx p x block thrown = do
     scope ← scoping.make_scope (named (x.name ∷ [])) cx.scope p

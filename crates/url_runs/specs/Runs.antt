@@ -13,7 +13,7 @@ use Rattle.js_interp.specs.declared.outcome.Outcome.{Outcome}
 use Rattle.js_interp.specs.Answers.{entry_of, seen_outcome}
 use Rattle.url_runs.specs.declared.url_run.UrlRun.{UrlRun}
 
--- a script as what it is run for: the run for each entry, as a tree of what it asks
+-- a script as its runs: for each entry a tree of what is asked
 abbrev pub ScriptRuns : Type 0
 ScriptRuns = Entry → RunTree RunEnd
 
