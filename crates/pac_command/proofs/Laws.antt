@@ -10,6 +10,7 @@ use Rattle.js_law_evaluation.proofs.OfEvaluation.{asks-by-names}
 use Rattle.poll_loop.proofs.Kept.{memory_cut}
 use Rattle.pac_ask.proofs.Begin as name_begins
 use Rattle.pac_ask.proofs.Answered as name_told
+use Rattle.url_runs.proofs.Completions.{completion}
 use Rattle.url_runs.proofs.Counting.{few}
 use Rattle.url_runs.proofs.Sound as urls
 use Rattle.url_runs.proofs.Answered as urls_told
@@ -22,6 +23,7 @@ script_is_read = (_, refl)
 
 pub laws : CommandsKeepLaws
 laws = record {
+  agreeing_map = completion;
   few_runs = few;
   urls_are_sound = λ script. urls.sound (run_by_names script) (λ entry. asks-by-names script entry);
   name_is_sound = λ asking n terms named. name_begins.sound asking.terms n terms named;

@@ -7,6 +7,7 @@ use Rattle.memory_talk.specs.Laws.{OneLog}
 use Rattle.pac_ask.specs.Laws.{AsksAreSound, ToldIsAnswered}
 use Rattle.pac_generate.specs.Generated as generated
 use Rattle.poll_loop.specs.Laws.{UnfinishedIsCut}
+use Rattle.url_runs.specs.Resolving.{Completion}
 use Rattle.url_runs.specs.Laws.{RunsAreFew, TasksAreSound, ToldAreAnswered}
 
 -- the generated script is read
@@ -14,7 +15,9 @@ abbrev pub ScriptIsRead : Type 0
 ScriptIsRead = (script : List StatementTree) × (script_of_text generated.script ≡ Ok script)
 
 pub record CommandsKeepLaws : Type 0 where
-  -- no URL costs more runs than the distinct names of its whole run, and one
+  -- for each log there is a map of all names that agrees with it
+  pub agreeing_map : Completion
+  -- no URL costs more runs than the distinct names of its whole run, plus one
   pub few_runs : RunsAreFew
   -- what is polled for is sound, so where memory ran out the log is cut short
   pub urls_are_sound : (script : List StatementTree) → TasksAreSound (run_by_names script)

@@ -1,3 +1,4 @@
+pub mod Completions
 pub mod Outcomes
 pub mod Ending
 pub mod Counting
