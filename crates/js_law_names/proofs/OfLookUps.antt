@@ -1,4 +1,4 @@
--- What is read where a name stands is what a look-up finds.
+-- What is read where a name stands is what a look-up finds, and so it is with `typeof` and `delete`.
 use Rattle.std.proofs.Common.{◌≡◌, ℕ, zero, suc, ◌+◌, List, [], ◌∷◌, length, Bool, true, false, if◌then◌else◌, Option, Some, None, refl, ◌∙◌, ap, arith, add-zero}
 use Rattle.std.specs.Prelude.{slice_get, option_map}
 use Rattle.std.specs.Str.{bytes_eq}
@@ -10,8 +10,8 @@ use Rattle.heap_values.specs.Views.{ScopeView, HeapView}
 use Rattle.object_heap.specs.Heap.{scope_at, parent_in, slot_at, slot_of}
 use Rattle.run_trees.specs.Runs.{After}
 use Rattle.js_evaluation.specs.State.{RunState, RunEnd, Stop}
-use Rattle.js_evaluation.specs.ByNames.{Standing, in_scope, in_own, in_global, place_or, found_in, found_from, standing, read_at}
-use Rattle.js_law_names.specs.LookUps.{value_or, look_up, pairs_from, pairs_of, environment_from, environment_of, found_or_global, ReadsAreLookUps}
+use Rattle.js_evaluation.specs.ByNames.{Standing, in_scope, in_own, in_global, place_or, found_in, found_from, standing, read_at, read_or_undefined_at, delete_at}
+use Rattle.js_law_names.specs.LookUps.{value_or, look_up, pairs_from, pairs_of, environment_from, environment_of, found_or_global, found_or_undefined, kept_or_global, ReadsAreLookUps, TypesAreLookUps, DeletesAreLookUps}
 
 -- ---- one scope
 
@@ -68,7 +68,11 @@ module _ (names : List Scope) (h : HeapView) where
   from_one (suc n) (Some i) x = in_one i (slice_get names i.0) x _
       ∙ ap (λ v. value_or v x (pairs_of (scope_at h i) (slice_get names i.0))) (from_one n (parent_in (scope_at h i)) x)
 
--- ---- reads
+-- ---- reads, `typeof` and `delete`
+
+at_look_up : {A : Type 0} (rule : Option Value → A) (s : RunState) (scope : ScopeId) (x : List ℕ)
+    → rule (value_at s.heap (standing s scope x)) ≡ rule (look_up x (environment_of s scope))
+at_look_up rule s scope x = ap rule (from_one s.names s.heap (length s.names) (Some scope) x)
 
 module _ (x : List ℕ) (place : Place) (after : After RunState Stop RunEnd Value) (s : RunState) where
   reads_value : (at : Standing) → read_at x place at after s ≡ found_or_global (value_at s.heap at) x place after s
@@ -76,10 +80,27 @@ module _ (x : List ℕ) (place : Place) (after : After RunState Stop RunEnd Valu
   reads_value (in_own i) = refl
   reads_value in_global = refl
 
-  reads_look_up : (scope : ScopeId)
-      → read_at x place (standing s scope x) after s ≡ found_or_global (look_up x (environment_of s scope)) x place after s
-  reads_look_up scope = reads_value (standing s scope x)
-      ∙ ap (λ o. found_or_global o x place after s) (from_one s.names s.heap (length s.names) (Some scope) x)
+  types_value : (at : Standing) → read_or_undefined_at x place at after s ≡ found_or_undefined (value_at s.heap at) x place after s
+  types_value (in_scope i slot) = refl
+  types_value (in_own i) = refl
+  types_value in_global = refl
+
+  deletes_value : (at : Standing) → delete_at x place at after s ≡ kept_or_global (value_at s.heap at) x place after s
+  deletes_value (in_scope i slot) = refl
+  deletes_value (in_own i) = refl
+  deletes_value in_global = refl
 
 pub reads_are_look_ups : ReadsAreLookUps
-reads_are_look_ups cx x place = λ i after s. reads_look_up x.name place after s cx.scope i
+reads_are_look_ups cx x place = λ i after s.
+    (reads_value x.name place after s (standing s cx.scope x.name)
+    ∙ at_look_up (λ o. found_or_global o x.name place after s) s cx.scope x.name) i
+
+pub types_are_look_ups : TypesAreLookUps
+types_are_look_ups cx x place = λ i after s.
+    (types_value x.name place after s (standing s cx.scope x.name)
+    ∙ at_look_up (λ o. found_or_undefined o x.name place after s) s cx.scope x.name) i
+
+pub deletes_are_look_ups : DeletesAreLookUps
+deletes_are_look_ups cx x place = λ i after s.
+    (deletes_value x.name place after s (standing s cx.scope x.name)
+    ∙ at_look_up (λ o. kept_or_global o x.name place after s) s cx.scope x.name) i

@@ -1,18 +1,19 @@
--- What a run by names reads is what a look-up finds in scopes as the standard has them: a scope is an environment record,
--- which is a list of names, each with its value, and has a scope around it (ECMA-262 5.1, sections 10.2.1 and 10.2.2.1).
-use Rattle.std.specs.Prelude.{◌≡◌, ℕ, zero, suc, List, [], ◌∷◌, length, slice_get, Option, Some, None, if◌then◌else◌}
+-- Names of a run by names are names of scopes as the standard has them: a scope is an environment record, which is a list
+-- of names, each with its value, and has a scope around it (ECMA-262 5.1, sections 10.2.1 and 10.2.2.1).
+use Rattle.std.specs.Prelude.{◌≡◌, false, ℕ, zero, suc, List, [], ◌∷◌, length, slice_get, Option, Some, None, if◌then◌else◌}
 use Rattle.std.specs.Str.{bytes_eq}
 use Rattle.js_tree.specs.declared.place.Place.{Place}
 use Rattle.js_tree.specs.declared.bound.BoundName.{BoundName}
 use Rattle.js_binding.specs.Scopes.{Scope, named, itself}
 use Rattle.heap_values.specs.declared.ids.ScopeId.{ScopeId}
 use Rattle.heap_values.specs.declared.value.Value.{Value}
+use Rattle.heap_values.specs.declared.value.Value.TheVariants.{Undefined, Bool as Truth, Object}
 use Rattle.heap_values.specs.Views.{ScopeView, HeapView}
 use Rattle.object_heap.specs.Heap.{scope_at, parent_in, slot_at, found_of}
 use Rattle.run_trees.specs.Runs.{pure, reading}
 use Rattle.js_evaluation.specs.State.{RunState, Does}
-use Rattle.js_evaluation.specs.Objects.{Context, global_id, global_value}
-use Rattle.js_evaluation.specs.ByNames.{read_name}
+use Rattle.js_evaluation.specs.Objects.{Context, global_id, global_value, found_value, delete_property}
+use Rattle.js_evaluation.specs.ByNames.{read_name, read_or_undefined, delete_name}
 
 -- ---- scopes and look-ups
 
@@ -68,3 +69,27 @@ found_or_global None x place = reading (λ s. global_value x (found_of s.heap gl
 abbrev pub ReadsAreLookUps : Type 0
 ReadsAreLookUps = (cx : Context) (x : BoundName) (place : Place)
     → read_name cx x place ≡ reading (λ s. found_or_global (look_up x.name (environment_of s cx.scope)) x.name place)
+
+-- ---- what `typeof` asks (11.4.3)
+
+-- a value that was found; where no scope has the name, the global object's property, or undefined without one
+abbrev pub found_or_undefined : Option Value → List ℕ → Place → Does Value
+found_or_undefined (Some v) x place = pure v
+found_or_undefined None x place = reading (λ s. found_value Undefined (found_of s.heap global_id x) place)
+
+-- What `typeof` asks of a name is what a look-up finds.
+abbrev pub TypesAreLookUps : Type 0
+TypesAreLookUps = (cx : Context) (x : BoundName) (place : Place) → read_or_undefined cx x place
+    ≡ reading (λ s. found_or_undefined (look_up x.name (environment_of s cx.scope)) x.name place)
+
+-- ---- `delete` of a name (11.4.1)
+
+-- false for a name that was found; where no scope has it, the global object's property is deleted
+abbrev pub kept_or_global : Option Value → List ℕ → Place → Does Value
+kept_or_global (Some v) x place = pure (Truth false)
+kept_or_global None x place = delete_property (Object global_id) x place
+
+-- A name that a look-up finds stays.
+abbrev pub DeletesAreLookUps : Type 0
+DeletesAreLookUps = (cx : Context) (x : BoundName) (place : Place) → delete_name cx x place
+    ≡ reading (λ s. kept_or_global (look_up x.name (environment_of s cx.scope)) x.name place)

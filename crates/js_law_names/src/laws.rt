@@ -1,6 +1,6 @@
 // Laws over the definition of evaluation.
 ghost use Rattle.js_law_names.specs.Laws.{NamesAreSlots, ReadsRunByNames};
-ghost use Rattle.js_law_names.specs.LookUps.{ReadsAreLookUps};
+ghost use Rattle.js_law_names.specs.LookUps.{DeletesAreLookUps, ReadsAreLookUps, TypesAreLookUps};
 
 /// The run of a script by its names is the run of the resolved script by its slots, where no declared function has a
 /// name of its own.
@@ -17,4 +17,16 @@ pub fn reads_run_by_names()
 /// values.
 pub fn reads_are_look_ups()
     ensures { ReadsAreLookUps }
+{}
+
+/// What `typeof` asks of a name is what such a look-up finds, or undefined where no scope has it and the global object
+/// neither.
+pub fn types_are_look_ups()
+    ensures { TypesAreLookUps }
+{}
+
+/// A `delete` of a name is false where such a look-up finds it, and the deletion of the global object's property
+/// elsewhere.
+pub fn deletes_are_look_ups()
+    ensures { DeletesAreLookUps }
 {}
