@@ -18,3 +18,4 @@ mod OfEntries
 mod OfRuns
 pub mod ReadRuns
 pub mod OfLookUps
+pub mod OfWrites

@@ -11,7 +11,7 @@ use Rattle.object_heap.specs.Heap.{scope_at, parent_in, slot_at, slot_of}
 use Rattle.run_trees.specs.Runs.{After}
 use Rattle.js_evaluation.specs.State.{RunState, RunEnd, Stop}
 use Rattle.js_evaluation.specs.ByNames.{Standing, in_scope, in_own, in_global, place_or, found_in, found_from, standing, read_at, read_or_undefined_at, delete_at}
-use Rattle.js_law_names.specs.LookUps.{value_or, look_up, pairs_from, pairs_of, environment_from, environment_of, found_or_global, found_or_undefined, kept_or_global, ReadsAreLookUps, TypesAreLookUps, DeletesAreLookUps}
+use Rattle.js_law_names.specs.LookUps.{Environment, value_or, look_up, pairs_from, scope_of, environment_from, environment_of, found_or_global, found_or_undefined, kept_or_global, ReadsAreLookUps, TypesAreLookUps, DeletesAreLookUps}
 
 -- ---- one scope
 
@@ -55,18 +55,21 @@ module _ (names : List Scope) (h : HeapView) where
   own_placed true i further = refl
   own_placed false i further = refl
 
-  in_one : (i : ScopeId) (o : Option Scope) (x : List ℕ) (further : Standing)
-      → value_at h (found_in i o x further) ≡ value_or (value_at h further) x (pairs_of (scope_at h i) o)
-  in_one i None x further = refl
-  in_one i (Some (named ys)) x further = placed i (place_of x ys) further ∙ places (scope_at h i) 0 x ys (value_at h further)
-  in_one i (Some (itself y)) x further = own_placed (bytes_eq x y) i further
+  in_one : (i : ScopeId) (o : Option Scope) (x : List ℕ) (further : Standing) (around : Environment)
+      → value_at h further ≡ look_up x around
+      → value_at h (found_in i o x further) ≡ look_up x (scope_of i (scope_at h i) o around)
+  in_one i None x further around e = e
+  in_one i (Some (named ys)) x further around e = placed i (place_of x ys) further
+      ∙ places (scope_at h i) 0 x ys (value_at h further)
+      ∙ ap (λ o. value_or o x (pairs_from (scope_at h i) 0 ys)) e
+  in_one i (Some (itself y)) x further around e = own_placed (bytes_eq x y) i further
+      ∙ ap (λ o. if bytes_eq x y then Some (slot_at (scope_at h i) 0) else o) e
 
   from_one : (n : ℕ) (o : Option ScopeId) (x : List ℕ)
       → value_at h (found_from n names h o x) ≡ look_up x (environment_from n names h o)
   from_one zero o x = refl
   from_one (suc n) None x = refl
-  from_one (suc n) (Some i) x = in_one i (slice_get names i.0) x _
-      ∙ ap (λ v. value_or v x (pairs_of (scope_at h i) (slice_get names i.0))) (from_one n (parent_in (scope_at h i)) x)
+  from_one (suc n) (Some i) x = in_one i (slice_get names i.0) x _ _ (from_one n (parent_in (scope_at h i)) x)
 
 -- ---- reads, `typeof` and `delete`
 

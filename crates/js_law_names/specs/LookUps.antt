@@ -21,10 +21,13 @@ use Rattle.js_evaluation.specs.ByNames.{read_name, read_or_undefined, delete_nam
 abbrev pub Pairs : Type 0
 Pairs = List (List ℕ × Value)
 
--- a scope with the scopes around it, or the end of them, behind which stands the global object
+-- A scope with the scopes around it, or the end of them, behind which stands the global object. A scope has its number,
+-- so that one that stands around several is known as the same. The scope of a function expression's own name has one
+-- pair, whose value stays (10.2.1.1.7, 13).
 pub data Environment : Type 0 where
   no_scope : Environment
-  a_scope : Pairs → Environment → Environment
+  a_scope : ScopeId → Pairs → Environment → Environment
+  own_scope : ScopeId → List ℕ × Value → Environment → Environment
 
 -- the value of a name in a list, or what is found further out
 abbrev pub value_or : Option Value → List ℕ → Pairs → Option Value
@@ -34,7 +37,8 @@ value_or further x (pair ∷ pairs) = if bytes_eq x pair.0 then Some pair.1 else
 -- the value of a name in the innermost scope that has it
 abbrev pub look_up : List ℕ → Environment → Option Value
 look_up x no_scope = None
-look_up x (a_scope pairs around) = value_or (look_up x around) x pairs
+look_up x (a_scope i pairs around) = value_or (look_up x around) x pairs
+look_up x (own_scope i pair around) = value_or (look_up x around) x (pair ∷ [])
 
 -- ---- the scopes of a state
 
@@ -43,17 +47,18 @@ abbrev pub pairs_from : Option ScopeView → ℕ → List (List ℕ) → Pairs
 pairs_from view slot [] = []
 pairs_from view slot (x ∷ xs) = (x, slot_at view slot) ∷ pairs_from view (suc slot) xs
 
-abbrev pub pairs_of : Option ScopeView → Option Scope → Pairs
-pairs_of view None = []
-pairs_of view (Some (named names)) = pairs_from view 0 names
-pairs_of view (Some (itself x)) = pairs_from view 0 (x ∷ [])
+-- a scope of the heap with its names
+abbrev pub scope_of : ScopeId → Option ScopeView → Option Scope → Environment → Environment
+scope_of i view None around = a_scope i [] around
+scope_of i view (Some (named names)) around = a_scope i (pairs_from view 0 names) around
+scope_of i view (Some (itself x)) around = own_scope i (x, slot_at view 0) around
 
--- A scope of the heap with its names, and those around it. No scope has as many scopes around it as there are scopes.
+-- A scope of the heap, and those around it. No scope has as many scopes around it as there are scopes.
 abbrev pub environment_from : ℕ → List Scope → HeapView → Option ScopeId → Environment
 environment_from zero names h scope = no_scope
 environment_from (suc n) names h None = no_scope
 environment_from (suc n) names h (Some i) =
-    a_scope (pairs_of (scope_at h i) (slice_get names i.0)) (environment_from n names h (parent_in (scope_at h i)))
+    scope_of i (scope_at h i) (slice_get names i.0) (environment_from n names h (parent_in (scope_at h i)))
 
 abbrev pub environment_of : RunState → ScopeId → Environment
 environment_of s scope = environment_from (length s.names) s.names s.heap (Some scope)

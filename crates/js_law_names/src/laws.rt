@@ -1,6 +1,7 @@
 // Laws over the definition of evaluation.
 ghost use Rattle.js_law_names.specs.Laws.{NamesAreSlots, ReadsRunByNames};
 ghost use Rattle.js_law_names.specs.LookUps.{DeletesAreLookUps, ReadsAreLookUps, TypesAreLookUps};
+ghost use Rattle.js_law_names.specs.Writes.{WritesAreLookUps, WritesBehindScopes};
 
 /// The run of a script by its names is the run of the resolved script by its slots, where no declared function has a
 /// name of its own.
@@ -29,4 +30,15 @@ pub fn types_are_look_ups()
 /// elsewhere.
 pub fn deletes_are_look_ups()
     ensures { DeletesAreLookUps }
+{}
+
+/// A write to a name changes the pair of that name in the innermost scope that has it, which is the pair that a look-up
+/// finds, and nothing else; the own name of a function expression keeps its value.
+pub fn writes_are_look_ups()
+    ensures { WritesAreLookUps }
+{}
+
+/// Where no scope has the name, the write goes to the property of the global object.
+pub fn writes_behind_scopes()
+    ensures { WritesBehindScopes }
 {}

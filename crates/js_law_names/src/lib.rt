@@ -9,4 +9,4 @@
 
 mod laws;
 
-pub use laws::{deletes_are_look_ups, names_are_slots, reads_are_look_ups, reads_run_by_names, types_are_look_ups};
+pub use laws::{deletes_are_look_ups, names_are_slots, reads_are_look_ups, reads_run_by_names, types_are_look_ups, writes_are_look_ups, writes_behind_scopes};

@@ -1,0 +1,68 @@
+-- What a write to a name, and a new scope, do to the scopes of a run (ECMA-262 5.1, sections 8.7.2 and 10.2.2.2).
+use Rattle.std.specs.Prelude.{◌≡◌, Bool, true, false, ◌==◌, ℕ, List, [], ◌∷◌, map, length, Option, Some, None, Ok, if◌then◌else◌}
+use Rattle.std.specs.Str.{bytes_eq}
+use Rattle.js_tree.specs.declared.place.Place.{Place}
+use Rattle.js_tree.specs.declared.bound.BoundName.{BoundName}
+use Rattle.heap_values.specs.declared.ids.ScopeId.{ScopeId}
+use Rattle.heap_values.specs.declared.value.Value.{Value}
+use Rattle.heap_values.specs.Views.{ScopeView}
+use Rattle.run_trees.specs.Runs.{After}
+use Rattle.js_evaluation.specs.State.{RunState, RunEnd, Stop}
+use Rattle.js_evaluation.specs.Objects.{Context, global_id, put_on}
+use Rattle.js_evaluation.specs.ByNames.{write_name, size_of}
+use Rattle.js_law_names.specs.LookUps.{Pairs, Environment, no_scope, a_scope, own_scope, environment_of}
+
+-- ---- the scope that a write goes to
+
+abbrev pub has_name : List ℕ → Pairs → Bool
+has_name x [] = false
+has_name x (pair ∷ pairs) = if bytes_eq x pair.0 then true else has_name x pairs
+
+-- the innermost scope that has the name, by its number
+abbrev pub holder : List ℕ → Environment → Option ScopeId
+holder x no_scope = None
+holder x (a_scope i pairs around) = if has_name x pairs then Some i else holder x around
+holder x (own_scope i pair around) = if bytes_eq x pair.0 then Some i else holder x around
+
+-- these pairs, in which the first of this name has this value
+abbrev pub with_value : List ℕ → Value → Pairs → Pairs
+with_value x v [] = []
+with_value x v (pair ∷ pairs) = if bytes_eq x pair.0 then (pair.0, v) ∷ pairs else pair ∷ with_value x v pairs
+
+-- The scopes behind a write of this value to this name in the scope of this number. The own name of a function
+-- expression keeps its value (10.2.1.1.3).
+abbrev pub written : ScopeId → List ℕ → Value → Environment → Environment
+written i x v no_scope = no_scope
+written i x v (a_scope j pairs around) =
+    a_scope j (if i.0 == j.0 then with_value x v pairs else pairs) (written i x v around)
+written i x v (own_scope j pair around) = own_scope j pair (written i x v around)
+
+-- ---- writes (8.7.2)
+
+abbrev pub slots_in : ScopeView → ℕ
+slots_in view = length view.slots
+
+-- Each scope has as many slots as it has names. So it is where a run begins, a write and a new scope keep it, and no
+-- other rule changes a scope.
+abbrev pub ScopesFit : RunState → Type 0
+ScopesFit s = map slots_in s.heap.scopes ≡ map size_of s.names
+
+-- Behind the write stands this state: from whatever scope code looks, it sees the scopes as before, but for the written
+-- pair. And nothing else changes.
+pub record IsWritten (i : ScopeId) (x : List ℕ) (v : Value) (s t : RunState) : Type 0 where
+  pub seen : (scope : ScopeId) → environment_of t scope ≡ written i x v (environment_of s scope)
+  pub rest : t ≡ record s { heap = record s.heap { scopes = t.heap.scopes } }
+  pub fit : ScopesFit t
+
+-- A write goes to the innermost scope that has the name, and the run goes on with the scopes so written.
+abbrev pub WritesAreLookUps : Type 0
+WritesAreLookUps = (cx : Context) (x : BoundName) (v : Value) (place : Place) (s : RunState) (i : ScopeId) → ScopesFit s
+    → holder x.name (environment_of s cx.scope) ≡ Some i
+    → (t : RunState) × IsWritten i x.name v s t
+    × ((after : After RunState Stop RunEnd (Unit {0})) → write_name cx x v place after s ≡ after (Ok tt) t)
+
+-- Where no scope has the name, the write goes to the property of the global object.
+abbrev pub WritesBehindScopes : Type 0
+WritesBehindScopes = (cx : Context) (x : BoundName) (v : Value) (place : Place) (s : RunState)
+    → holder x.name (environment_of s cx.scope) ≡ None
+    → (after : After RunState Stop RunEnd (Unit {0})) → write_name cx x v place after s ≡ put_on global_id x.name v place after s
