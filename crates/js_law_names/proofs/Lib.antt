@@ -19,3 +19,4 @@ mod OfRuns
 pub mod ReadRuns
 pub mod OfLookUps
 pub mod OfWrites
+pub mod OfNewScopes

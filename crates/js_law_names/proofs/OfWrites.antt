@@ -276,7 +276,7 @@ module _ (x : List ℕ) (v : Value) (place : Place) (s : RunState) (fit : Scopes
   writes : (at : Standing) (i : ScopeId) → Stands s.names x at → scope_where at ≡ Some i → Goes at i
   writes (in_scope j slot) i k e =
       let same : j ≡ i = cc in
-      let f = fits_at s.heap.scopes s.names j.0 (named k.0) fit k.1 in
+      let f = fits_at s.heap.scopes s.names j.0 (named k.0) fit.slots k.1 in
       let g : HeapView = new_heap s.names s.heap j x v k.0 f.view k.1 f.there (le_of_eq (sym f.slots)) in
       let t : RunState = record s { heap = g } in
       let seen = λ (scope : ScopeId). written_from s.names s.heap j x v k.0 f.view k.1 f.there (le_of_eq (sym f.slots)) (length s.names) (Some scope) in
@@ -287,7 +287,10 @@ module _ (x : List ℕ) (v : Value) (place : Place) (s : RunState) (fit : Scopes
       let is : IsWritten j x v s t = record {
         seen = seen;
         rest = refl;
-        fit = sizes_set s.heap.scopes j.0 f.view _ f.there (size_behind f.view 0 (place_of x k.0) v) ∙ fit;
+        fit = record {
+          slots = sizes_set s.heap.scopes j.0 f.view _ f.there (size_behind f.view 0 (place_of x k.0) v) ∙ fit.slots;
+          newer = λ m p e. fit.newer m p (sym (parent_set s.heap.scopes j.0 m.0 f.view _ f.there (parent_behind f.view 0 (place_of x k.0) v)) ∙ e);
+        };
       } in
       subst (Goes (in_scope j slot)) same (t, is, λ after.
         ap (λ o. after (Ok tt) (record s { heap = slot_written_in s.heap j.0 o slot v })) f.there

@@ -1,15 +1,20 @@
 -- What a write to a name, and a new scope, do to the scopes of a run (ECMA-262 5.1, sections 8.7.2 and 10.2.2.2).
-use Rattle.std.specs.Prelude.{◌≡◌, Bool, true, false, ◌==◌, ℕ, List, [], ◌∷◌, map, length, Option, Some, None, Ok, if◌then◌else◌}
+use Rattle.std.specs.Prelude.{◌≡◌, Bool, true, false, ◌==◌, ℕ, ◌<◌, List, [], ◌∷◌, ◌++◌, map, length, Option, Some, None, Ok, if◌then◌else◌}
 use Rattle.std.specs.Str.{bytes_eq}
 use Rattle.js_tree.specs.declared.place.Place.{Place}
 use Rattle.js_tree.specs.declared.bound.BoundName.{BoundName}
+use Rattle.js_binding.specs.Scopes.{Scope, named, itself}
 use Rattle.heap_values.specs.declared.ids.ScopeId.{ScopeId}
 use Rattle.heap_values.specs.declared.value.Value.{Value}
-use Rattle.heap_values.specs.Views.{ScopeView}
+use Rattle.heap_values.specs.declared.value.Value.TheVariants.{Undefined}
+use Rattle.heap_values.specs.Views.{ScopeView, HeapView}
+use Rattle.object_heap.specs.Heap.{scope_at, parent_in, scope_made_of}
 use Rattle.run_trees.specs.Runs.{After}
 use Rattle.js_evaluation.specs.State.{RunState, RunEnd, Stop}
 use Rattle.js_evaluation.specs.Objects.{Context, global_id, put_on}
-use Rattle.js_evaluation.specs.ByNames.{write_name, size_of}
+use Rattle.js_evaluation.specs.ByNames.{write_name, make_scope, size_of}
+use Rattle.js_evaluation.specs.Scoping.{by_names}
+use Rattle.js_evaluation.specs.Evaluation.{Entry, first_state}
 use Rattle.js_law_names.specs.LookUps.{Pairs, Environment, no_scope, a_scope, own_scope, environment_of}
 
 -- ---- the scope that a write goes to
@@ -42,10 +47,14 @@ written i x v (own_scope j pair around) = own_scope j pair (written i x v around
 abbrev pub slots_in : ScopeView → ℕ
 slots_in view = length view.slots
 
--- Each scope has as many slots as it has names. So it is where a run begins, a write and a new scope keep it, and no
--- other rule changes a scope.
-abbrev pub ScopesFit : RunState → Type 0
-ScopesFit s = map slots_in s.heap.scopes ≡ map size_of s.names
+-- Each scope has as many slots as it has names, and is newer than the scope around it. So it is where a run begins. A
+-- write and a new scope keep it, and no other rule changes a scope.
+pub record ScopesFit (s : RunState) : Type 0 where
+  pub slots : map slots_in s.heap.scopes ≡ map size_of s.names
+  pub newer : (i p : ScopeId) → parent_in (scope_at s.heap i) ≡ Some p → p.0 < i.0
+
+abbrev pub FirstScopesFit : Type 0
+FirstScopesFit = (entry : Entry) → ScopesFit (first_state by_names entry)
 
 -- Behind the write stands this state: from whatever scope code looks, it sees the scopes as before, but for the written
 -- pair. And nothing else changes.
@@ -66,3 +75,27 @@ abbrev pub WritesBehindScopes : Type 0
 WritesBehindScopes = (cx : Context) (x : BoundName) (v : Value) (place : Place) (s : RunState)
     → holder x.name (environment_of s cx.scope) ≡ None
     → (after : After RunState Stop RunEnd (Unit {0})) → write_name cx x v place after s ≡ put_on global_id x.name v place after s
+
+-- ---- new scopes (10.2.2.2)
+
+-- a new scope with these names, each undefined
+abbrev pub new_scope : ScopeId → Scope → Environment → Environment
+new_scope i (named names) around = a_scope i (map (λ x. (x, Undefined)) names) around
+new_scope i (itself x) around = own_scope i (x, Undefined) around
+
+-- Behind a new scope of this number stands this state: the new scope has these names and that scope around it, each
+-- scope of before is seen as before, and nothing changes but the scopes and the cells that the heap counts.
+pub record IsNewScope (i : ScopeId) (names : Scope) (around : ScopeId) (s t : RunState) : Type 0 where
+  pub new : i.0 ≡ length s.names
+  pub seen : environment_of t i ≡ new_scope i names (environment_of s around)
+  pub before : (scope : ScopeId) → scope.0 < length s.names → environment_of t scope ≡ environment_of s scope
+  pub rest : t ≡ record s { heap = record s.heap { scopes = t.heap.scopes; cells = t.heap.cells }; names = s.names ++ names ∷ [] }
+  pub fit : ScopesFit t
+
+-- Where the heap has room for it, there is a new scope around which stands a scope of the run. Where it has none, its
+-- refusal is a fault, as the rule has it.
+abbrev pub NewScopesAreAround : Type 0
+NewScopesAreAround = (names : Scope) (around : ScopeId) (place : Place) (s : RunState) (made : ScopeId × HeapView) → ScopesFit s
+    → around.0 < length s.names → scope_made_of s.heap (size_of names) (Some around) ≡ Ok made
+    → (t : RunState) × IsNewScope made.0 names around s t
+    × ((after : After RunState Stop RunEnd ScopeId) → make_scope names around place after s ≡ after (Ok made.0) t)

@@ -1,7 +1,7 @@
 // Laws over the definition of evaluation.
 ghost use Rattle.js_law_names.specs.Laws.{NamesAreSlots, ReadsRunByNames};
 ghost use Rattle.js_law_names.specs.LookUps.{DeletesAreLookUps, ReadsAreLookUps, TypesAreLookUps};
-ghost use Rattle.js_law_names.specs.Writes.{WritesAreLookUps, WritesBehindScopes};
+ghost use Rattle.js_law_names.specs.Writes.{FirstScopesFit, NewScopesAreAround, WritesAreLookUps, WritesBehindScopes};
 
 /// The run of a script by its names is the run of the resolved script by its slots, where no declared function has a
 /// name of its own.
@@ -41,4 +41,14 @@ pub fn writes_are_look_ups()
 /// Where no scope has the name, the write goes to the property of the global object.
 pub fn writes_behind_scopes()
     ensures { WritesBehindScopes }
+{}
+
+/// A new scope has its names, each undefined, and around it the scope that it was made in; each other scope stays.
+pub fn new_scopes_are_around()
+    ensures { NewScopesAreAround }
+{}
+
+/// Where a run begins, each scope has as many slots as names, and is newer than the scope around it.
+pub fn first_scopes_fit()
+    ensures { FirstScopesFit }
 {}
