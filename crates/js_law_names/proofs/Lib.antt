@@ -20,3 +20,4 @@ pub mod ReadRuns
 pub mod OfLookUps
 pub mod OfWrites
 pub mod OfNewScopes
+pub mod OfPairs

@@ -1,5 +1,5 @@
 -- What a write to a name, and a new scope, do to the scopes of a run (ECMA-262 5.1, sections 8.7.2 and 10.2.2.2).
-use Rattle.std.specs.Prelude.{◌≡◌, Bool, true, false, ◌==◌, ℕ, ◌<◌, List, [], ◌∷◌, ◌++◌, map, length, Option, Some, None, Ok, if◌then◌else◌}
+use Rattle.std.specs.Prelude.{◌≡◌, Bool, true, false, ◌==◌, ℕ, suc, ◌<◌, List, [], ◌∷◌, ◌++◌, map, length, Option, Some, None, is_some, option_map, Ok, if◌then◌else◌}
 use Rattle.std.specs.Str.{bytes_eq}
 use Rattle.js_tree.specs.declared.place.Place.{Place}
 use Rattle.js_tree.specs.declared.bound.BoundName.{BoundName}
@@ -9,13 +9,13 @@ use Rattle.heap_values.specs.declared.value.Value.{Value}
 use Rattle.heap_values.specs.declared.value.Value.TheVariants.{Undefined}
 use Rattle.heap_values.specs.Views.{ScopeView, HeapView}
 use Rattle.object_heap.specs.Heap.{scope_at, parent_in, scope_made_of}
-use Rattle.run_trees.specs.Runs.{After}
+use Rattle.run_trees.specs.Runs.{After, reading}
 use Rattle.js_evaluation.specs.State.{RunState, RunEnd, Stop}
 use Rattle.js_evaluation.specs.Objects.{Context, global_id, put_on}
-use Rattle.js_evaluation.specs.ByNames.{write_name, make_scope, size_of}
+use Rattle.js_evaluation.specs.ByNames.{Standing, in_own, in_global, place_or, write_at, write_name, make_scope, size_of}
 use Rattle.js_evaluation.specs.Scoping.{by_names}
 use Rattle.js_evaluation.specs.Evaluation.{Entry, first_state}
-use Rattle.js_law_names.specs.LookUps.{Pairs, Environment, no_scope, a_scope, own_scope, environment_of}
+use Rattle.js_law_names.specs.LookUps.{Pairs, Environment, no_scope, a_scope, own_scope, look_up, environment_of}
 
 -- ---- the scope that a write goes to
 
@@ -28,6 +28,12 @@ abbrev pub holder : List ℕ → Environment → Option ScopeId
 holder x no_scope = None
 holder x (a_scope i pairs around) = if has_name x pairs then Some i else holder x around
 holder x (own_scope i pair around) = if bytes_eq x pair.0 then Some i else holder x around
+
+-- the innermost scope that has the name is that of a function expression's own name
+abbrev pub is_own : List ℕ → Environment → Bool
+is_own x no_scope = false
+is_own x (a_scope i pairs around) = if has_name x pairs then false else is_own x around
+is_own x (own_scope i pair around) = if bytes_eq x pair.0 then true else is_own x around
 
 -- these pairs, in which the first of this name has this value
 abbrev pub with_value : List ℕ → Value → Pairs → Pairs
@@ -42,13 +48,41 @@ written i x v (a_scope j pairs around) =
     a_scope j (if i.0 == j.0 then with_value x v pairs else pairs) (written i x v around)
 written i x v (own_scope j pair around) = own_scope j pair (written i x v around)
 
+-- A look-up finds a value where there is such a scope.
+abbrev pub FoundWhereHeld : Type 0
+FoundWhereHeld = (x : List ℕ) (env : Environment) → is_some (look_up x env) ≡ is_some (holder x env)
+
+-- Behind a write a look-up finds what was written, but for such an own name.
+abbrev pub WrittenIsFound : Type 0
+WrittenIsFound = (x : List ℕ) (v : Value) (env : Environment) (i : ScopeId) → holder x env ≡ Some i
+    → look_up x (written i x v env) ≡ (if is_own x env then look_up x env else Some v)
+
+-- ---- the place that a write goes to
+
+-- the first pair of a name in a list, counted from 0
+abbrev pub pair_of : List ℕ → Pairs → Option ℕ
+pair_of x [] = None
+pair_of x (pair ∷ pairs) = if bytes_eq x pair.0 then Some 0 else option_map suc (pair_of x pairs)
+
+-- the place of a name: the first of its pairs in the innermost scope that has one
+abbrev pub standing_in : List ℕ → Environment → Standing
+standing_in x no_scope = in_global
+standing_in x (a_scope i pairs around) = place_or i (pair_of x pairs) (standing_in x around)
+standing_in x (own_scope i pair around) = if bytes_eq x pair.0 then in_own i else standing_in x around
+
+-- In each state, a write goes to that slot of that scope.
+abbrev pub WritesHaveTheirPlace : Type 0
+WritesHaveTheirPlace = (cx : Context) (x : BoundName) (v : Value) (place : Place) → write_name cx x v place
+    ≡ reading (λ s. write_at x.name v place (standing_in x.name (environment_of s cx.scope)))
+
 -- ---- writes (8.7.2)
 
 abbrev pub slots_in : ScopeView → ℕ
 slots_in view = length view.slots
 
--- Each scope has as many slots as it has names, and is newer than the scope around it. So it is where a run begins. A
--- write and a new scope keep it, and no other rule changes a scope.
+-- Each scope has as many slots as it has names, and is newer than the scope around it. A run keeps this: so it is where
+-- a run begins, and a write and a new scope keep it, which are laws; that no other rule changes a scope is seen in the
+-- rules.
 pub record ScopesFit (s : RunState) : Type 0 where
   pub slots : map slots_in s.heap.scopes ≡ map size_of s.names
   pub newer : (i p : ScopeId) → parent_in (scope_at s.heap i) ≡ Some p → p.0 < i.0

@@ -1,7 +1,7 @@
 // Laws over the definition of evaluation.
 ghost use Rattle.js_law_names.specs.Laws.{NamesAreSlots, ReadsRunByNames};
 ghost use Rattle.js_law_names.specs.LookUps.{DeletesAreLookUps, ReadsAreLookUps, TypesAreLookUps};
-ghost use Rattle.js_law_names.specs.Writes.{FirstScopesFit, NewScopesAreAround, WritesAreLookUps, WritesBehindScopes};
+ghost use Rattle.js_law_names.specs.Writes.{FirstScopesFit, FoundWhereHeld, NewScopesAreAround, WritesAreLookUps, WritesBehindScopes, WritesHaveTheirPlace, WrittenIsFound};
 
 /// The run of a script by its names is the run of the resolved script by its slots, where no declared function has a
 /// name of its own.
@@ -32,8 +32,8 @@ pub fn deletes_are_look_ups()
     ensures { DeletesAreLookUps }
 {}
 
-/// A write to a name changes the pair of that name in the innermost scope that has it, which is the pair that a look-up
-/// finds, and nothing else; the own name of a function expression keeps its value.
+/// Where each scope has as many slots as names, a write to a name changes the first pair of that name in the innermost
+/// scope that has it, and nothing else; the own name of a function expression keeps its value.
 pub fn writes_are_look_ups()
     ensures { WritesAreLookUps }
 {}
@@ -51,4 +51,19 @@ pub fn new_scopes_are_around()
 /// Where a run begins, each scope has as many slots as names, and is newer than the scope around it.
 pub fn first_scopes_fit()
     ensures { FirstScopesFit }
+{}
+
+/// In each state, a write goes to the first pair of its name in the innermost scope that has one.
+pub fn writes_have_their_place()
+    ensures { WritesHaveTheirPlace }
+{}
+
+/// A look-up finds a value where such a scope is.
+pub fn found_where_held()
+    ensures { FoundWhereHeld }
+{}
+
+/// Behind a write a look-up finds what was written, but for a function expression's own name.
+pub fn written_is_found()
+    ensures { WrittenIsFound }
 {}

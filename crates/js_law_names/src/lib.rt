@@ -10,6 +10,7 @@
 mod laws;
 
 pub use laws::{
-    deletes_are_look_ups, first_scopes_fit, names_are_slots, new_scopes_are_around, reads_are_look_ups,
-    reads_run_by_names, types_are_look_ups, writes_are_look_ups, writes_behind_scopes,
+    deletes_are_look_ups, first_scopes_fit, found_where_held, names_are_slots, new_scopes_are_around,
+    reads_are_look_ups, reads_run_by_names, types_are_look_ups, writes_are_look_ups, writes_behind_scopes,
+    writes_have_their_place, written_is_found,
 };
