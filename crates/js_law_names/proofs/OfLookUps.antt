@@ -7,11 +7,12 @@ use Rattle.js_binding.specs.Scopes.{Scope, named, itself, place_of}
 use Rattle.heap_values.specs.declared.ids.ScopeId.{ScopeId}
 use Rattle.heap_values.specs.declared.value.Value.{Value}
 use Rattle.heap_values.specs.Views.{ScopeView, HeapView}
-use Rattle.object_heap.specs.Heap.{scope_at, parent_in, slot_at, slot_of}
+use Rattle.object_heap.specs.Heap.{scope_at, parent_in, slot_at}
 use Rattle.run_trees.specs.Runs.{After}
 use Rattle.js_evaluation.specs.State.{RunState, RunEnd, Stop}
 use Rattle.js_evaluation.specs.ByNames.{Standing, in_scope, in_own, in_global, place_or, found_in, found_from, standing, read_at, read_or_undefined_at, delete_at}
 use Rattle.js_law_names.specs.LookUps.{Environment, value_or, look_up, pairs_from, scope_of, environment_from, environment_of, found_or_global, found_or_undefined, kept_or_global, ReadsAreLookUps, TypesAreLookUps, DeletesAreLookUps}
+use Rattle.js_law_names.specs.Writes.{value_at}
 
 -- ---- one scope
 
@@ -38,12 +39,6 @@ places view slot x (y ∷ ys) other = by_test (bytes_eq x y) view slot (place_of
 
 -- ---- the scopes of a heap
 
--- the value where a name stands; none where it is global
-abbrev value_at : HeapView → Standing → Option Value
-value_at h (in_scope i slot) = Some (slot_of h i slot)
-value_at h (in_own i) = Some (slot_of h i 0)
-value_at h in_global = None
-
 module _ (names : List Scope) (h : HeapView) where
   placed : (i : ScopeId) (o : Option ℕ) (further : Standing)
       → value_at h (place_or i o further) ≡ value_behind (scope_at h i) 0 o (value_at h further)
@@ -65,7 +60,7 @@ module _ (names : List Scope) (h : HeapView) where
   in_one i (Some (itself y)) x further around e = own_placed (bytes_eq x y) i further
       ∙ ap (λ o. if bytes_eq x y then Some (slot_at (scope_at h i) 0) else o) e
 
-  from_one : (n : ℕ) (o : Option ScopeId) (x : List ℕ)
+  pub from_one : (n : ℕ) (o : Option ScopeId) (x : List ℕ)
       → value_at h (found_from n names h o x) ≡ look_up x (environment_from n names h o)
   from_one zero o x = refl
   from_one (suc n) None x = refl

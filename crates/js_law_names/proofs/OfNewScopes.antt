@@ -1,7 +1,6 @@
 -- What a new scope does to the scopes of a run, and that the scopes fit where a run begins.
 use Rattle.std.proofs.Common.{◌≡◌, ℕ, zero, suc, ◌+◌, ◌<◌, List, [], ◌∷◌, ◌++◌, map, length, replicate, Bool, true, false, if◌then◌else◌, Option, Some, None, Result, Ok, Err, refl, sym, ◌∙◌, ap, ap₂, subst, arith, length-append}
 use Rattle.std.specs.Prelude.{slice_get, unwrap_or, nat_lt}
-use Rattle.js_tree.specs.declared.place.Place.{Place}
 use Rattle.js_binding.specs.Scopes.{Scope, named, itself}
 use Rattle.heap_values.specs.declared.answer.HeapAnswer.{HeapAnswer}
 use Rattle.heap_values.specs.declared.answer.HeapAnswer.TheVariants as answer
@@ -60,7 +59,7 @@ module _ (names : List Scope) (h : HeapView) where
     longer_in (suc n) zero i a b o e = absurd (omega (arith, b))
     longer_in (suc n) (suc m) i a b None e =
         let none : environment_from n names h (parent_in (scope_at h i)) ≡ environment_from m names h (parent_in (scope_at h i))
-            = ap (environment_from n names h) e ∙ none_from n ∙ sym (none_from m) ∙ ap (environment_from m names h) (sym e) in
+        = ap (environment_from n names h) e ∙ none_from n ∙ sym (none_from m) ∙ ap (environment_from m names h) (sym e) in
         ap (scope_of i (scope_at h i) (slice_get names i.0)) none
     longer_in (suc n) (suc m) i a b (Some p) e =
         let c : p.0 < i.0 = newer i p e in
@@ -158,7 +157,7 @@ module _ (s : RunState) (fit : ScopesFit s) (x : Scope) (around : ScopeId) (insi
         ∙ sym (map_behind size_of s.names x);
     newer = λ i p e.
         let old = λ (j : ℕ) (q : ScopeId) (f : parent_in (slice_get s.heap.scopes j) ≡ Some q).
-            (let g : q.0 < j = fit.newer (record { 0 = j }) q f in let k : q.0 < 0 + j = omega (arith, g) in k) in
+        (let g : q.0 < j = fit.newer (record { 0 = j }) q f in let k : q.0 < 0 + j = omega (arith, g) in k) in
         let c : around.0 < 0 + length s.heap.scopes = omega (arith, inside, fit_counts s fit) in
         let d : p.0 < 0 + i.0 = newer_end s.heap.scopes 0 old c i.0 p e in
         omega (arith, d);

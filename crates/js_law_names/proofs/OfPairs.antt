@@ -9,7 +9,8 @@ use Rattle.heap_values.specs.Views.{ScopeView, HeapView}
 use Rattle.object_heap.specs.Heap.{scope_at, parent_in}
 use Rattle.js_evaluation.specs.ByNames.{Standing, in_own, place_or, found_in, found_from, write_at}
 use Rattle.js_law_names.specs.LookUps.{Pairs, Environment, no_scope, a_scope, own_scope, value_or, look_up, pairs_from, scope_of, environment_from}
-use Rattle.js_law_names.specs.Writes.{has_name, holder, is_own, with_value, written, pair_of, standing_in, FoundWhereHeld, WrittenIsFound, WritesHaveTheirPlace}
+use Rattle.js_law_names.specs.Writes.{has_name, holder, is_own, with_value, written, pair_of, standing_in, value_at, FoundInPlace, FoundWhereHeld, WrittenIsFound, WritesHaveTheirPlace}
+use Rattle.js_law_names.proofs.OfLookUps.{from_one}
 
 -- ---- one list of pairs
 
@@ -128,3 +129,8 @@ module _ (names : List Scope) (h : HeapView) (x : List ℕ) where
 pub writes_have_their_place : WritesHaveTheirPlace
 writes_have_their_place cx x v place = λ i after s.
     ap (λ at. write_at x.name v place at after s) (sym (standing_from s.names s.heap x.name (length s.names) (Some cx.scope))) i
+
+pub found_in_place : FoundInPlace
+found_in_place x s scope =
+    sym (from_one s.names s.heap (length s.names) (Some scope) x)
+    ∙ ap (value_at s.heap) (sym (standing_from s.names s.heap x (length s.names) (Some scope)))

@@ -1,5 +1,5 @@
 -- What a write to a name does to the scopes of a run.
-use Rattle.std.proofs.Common.{◌≡◌, ℕ, zero, suc, ◌+◌, ◌<◌, ◌≤◌, List, [], ◌∷◌, map, length, Bool, true, false, if◌then◌else◌, Option, Some, None, Ok, refl, sym, ◌∙◌, ap, ap₂, subst, arith, le_of_eq, eqb-true, length-append}
+use Rattle.std.proofs.Common.{◌≡◌, ℕ, zero, suc, ◌+◌, ◌<◌, ◌≤◌, List, [], ◌∷◌, map, length, Bool, true, false, if◌then◌else◌, Option, Some, None, Ok, refl, sym, ◌∙◌, ap, ap₂, subst, arith, le_of_eq, eqb-true}
 use Rattle.std.proofs.lemmas.Bool.{eqb-false}
 use Rattle.std.specs.Prelude.{slice_get, slice_set, option_map, ◌==◌, is_some, unwrap_or}
 use Rattle.std.specs.Str.{bytes_eq}
@@ -9,13 +9,13 @@ use Rattle.heap_values.specs.declared.ids.ScopeId.{ScopeId}
 use Rattle.heap_values.specs.declared.value.Value.{Value}
 use Rattle.heap_values.specs.declared.value.Value.TheVariants.{Undefined}
 use Rattle.heap_values.specs.Views.{ScopeView, HeapView}
-use Rattle.heap_objects.specs.Scope.{slot_in, scope_with}
+use Rattle.heap_objects.specs.Scope.{scope_with}
 use Rattle.object_heap.specs.Heap.{scope_at, parent_in, slot_at, slot_written_in}
 use Rattle.run_trees.specs.Runs.{After}
 use Rattle.js_evaluation.specs.State.{RunState, RunEnd, Stop}
 use Rattle.js_evaluation.specs.Objects.{global_id, put_on}
 use Rattle.js_evaluation.specs.ByNames.{Standing, in_scope, in_own, in_global, place_or, found_in, found_from, standing, write_at, size_of}
-use Rattle.js_law_names.specs.LookUps.{Environment, a_scope, own_scope, pairs_from, scope_of, environment_from, environment_of}
+use Rattle.js_law_names.specs.LookUps.{Environment, a_scope, own_scope, pairs_from, scope_of, environment_from}
 use Rattle.js_law_names.specs.Writes.{has_name, holder, with_value, written, slots_in, ScopesFit, IsWritten, WritesAreLookUps, WritesBehindScopes}
 
 -- ---- lists
@@ -145,7 +145,7 @@ module _ (names : List Scope) (h : HeapView) (i : ScopeId) (x : List ℕ) (v : V
         let same : i.0 ≡ j.0 = eqb-true i.0 j.0 e in
         let old : scope_at h j ≡ Some view = ap (slice_get h.scopes) (sym same) ∙ there in
         let new : scope_at new_heap j ≡ Some new_view = ap (slice_get new_heap.scopes) (sym same)
-            ∙ get_same h.scopes i.0 new_view (get_is_below h.scopes i.0 view there) in
+        ∙ get_same h.scopes i.0 new_view (get_is_below h.scopes i.0 view there) in
         let name : slice_get names j.0 ≡ Some (named ys) = ap (slice_get names) (sym same) ∙ here in
         ap₂ (λ o p. scope_of j o p around') new name
         ∙ written_one i x v j around around' further ys view e room
@@ -281,9 +281,9 @@ module _ (x : List ℕ) (v : Value) (place : Place) (s : RunState) (fit : Scopes
       let t : RunState = record s { heap = g } in
       let seen = λ (scope : ScopeId). written_from s.names s.heap j x v k.0 f.view k.1 f.there (le_of_eq (sym f.slots)) (length s.names) (Some scope) in
       let at : slice_set s.heap.scopes j.0 (scope_with f.view slot v) ≡ g.scopes = (
-          let e : slot ≡ 0 + slot = omega arith in
-          ap (λ n. slice_set s.heap.scopes j.0 (scope_with f.view n v)) e
-          ∙ ap (λ o. slice_set s.heap.scopes j.0 (view_behind f.view 0 o v)) (sym k.2)) in
+      let e : slot ≡ 0 + slot = omega arith in
+      ap (λ n. slice_set s.heap.scopes j.0 (scope_with f.view n v)) e
+      ∙ ap (λ o. slice_set s.heap.scopes j.0 (view_behind f.view 0 o v)) (sym k.2)) in
       let is : IsWritten j x v s t = record {
         seen = seen;
         rest = refl;
@@ -292,9 +292,13 @@ module _ (x : List ℕ) (v : Value) (place : Place) (s : RunState) (fit : Scopes
           newer = λ m p e. fit.newer m p (sym (parent_set s.heap.scopes j.0 m.0 f.view _ f.there (parent_behind f.view 0 (place_of x k.0) v)) ∙ e);
         };
       } in
-      subst (Goes (in_scope j slot)) same (t, is, λ after.
-        ap (λ o. after (Ok tt) (record s { heap = slot_written_in s.heap j.0 o slot v })) f.there
-        ∙ ap (λ scopes. after (Ok tt) (record s { heap = record s.heap { scopes = scopes } })) at)
+      subst (Goes (in_scope j slot)) same (
+        t,
+        is,
+        λ after.
+            ap (λ o. after (Ok tt) (record s { heap = slot_written_in s.heap j.0 o slot v })) f.there
+            ∙ ap (λ scopes. after (Ok tt) (record s { heap = record s.heap { scopes = scopes } })) at,
+      )
   writes (in_own j) i k e =
       let same : j ≡ i = cc in
       let is : IsWritten j x v s s = record {

@@ -1,5 +1,5 @@
--- Names of a run by names are names of scopes as the standard has them: a scope is an environment record, which is a list
--- of names, each with its value, and has a scope around it (ECMA-262 5.1, sections 10.2.1 and 10.2.2.1).
+-- The names of a run by names are those of scopes as the standard has them: a scope is an environment record, which is
+-- a list of names, each with its value, and has a scope around it (ECMA-262 5.1, sections 10.2.1 and 10.2.2.1).
 use Rattle.std.specs.Prelude.{◌≡◌, false, ℕ, zero, suc, List, [], ◌∷◌, length, slice_get, Option, Some, None, if◌then◌else◌}
 use Rattle.std.specs.Str.{bytes_eq}
 use Rattle.js_tree.specs.declared.place.Place.{Place}

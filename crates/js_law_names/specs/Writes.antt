@@ -8,11 +8,11 @@ use Rattle.heap_values.specs.declared.ids.ScopeId.{ScopeId}
 use Rattle.heap_values.specs.declared.value.Value.{Value}
 use Rattle.heap_values.specs.declared.value.Value.TheVariants.{Undefined}
 use Rattle.heap_values.specs.Views.{ScopeView, HeapView}
-use Rattle.object_heap.specs.Heap.{scope_at, parent_in, scope_made_of}
+use Rattle.object_heap.specs.Heap.{scope_at, parent_in, slot_of, scope_made_of}
 use Rattle.run_trees.specs.Runs.{After, reading}
 use Rattle.js_evaluation.specs.State.{RunState, RunEnd, Stop}
 use Rattle.js_evaluation.specs.Objects.{Context, global_id, put_on}
-use Rattle.js_evaluation.specs.ByNames.{Standing, in_own, in_global, place_or, write_at, write_name, make_scope, size_of}
+use Rattle.js_evaluation.specs.ByNames.{Standing, in_scope, in_own, in_global, place_or, write_at, write_name, make_scope, size_of}
 use Rattle.js_evaluation.specs.Scoping.{by_names}
 use Rattle.js_evaluation.specs.Evaluation.{Entry, first_state}
 use Rattle.js_law_names.specs.LookUps.{Pairs, Environment, no_scope, a_scope, own_scope, look_up, environment_of}
@@ -70,7 +70,18 @@ standing_in x no_scope = in_global
 standing_in x (a_scope i pairs around) = place_or i (pair_of x pairs) (standing_in x around)
 standing_in x (own_scope i pair around) = if bytes_eq x pair.0 then in_own i else standing_in x around
 
--- In each state, a write goes to that slot of that scope.
+-- the value in a place; the global object has its properties
+abbrev pub value_at : HeapView → Standing → Option Value
+value_at h (in_scope i slot) = Some (slot_of h i slot)
+value_at h (in_own i) = Some (slot_of h i 0)
+value_at h in_global = None
+
+-- In each state, what a look-up finds is the value in that place.
+abbrev pub FoundInPlace : Type 0
+FoundInPlace = (x : List ℕ) (s : RunState) (scope : ScopeId)
+    → look_up x (environment_of s scope) ≡ value_at s.heap (standing_in x (environment_of s scope))
+
+-- In each state, a write goes to that place.
 abbrev pub WritesHaveTheirPlace : Type 0
 WritesHaveTheirPlace = (cx : Context) (x : BoundName) (v : Value) (place : Place) → write_name cx x v place
     ≡ reading (λ s. write_at x.name v place (standing_in x.name (environment_of s cx.scope)))
@@ -81,8 +92,8 @@ abbrev pub slots_in : ScopeView → ℕ
 slots_in view = length view.slots
 
 -- Each scope has as many slots as it has names, and is newer than the scope around it. A run keeps this: so it is where
--- a run begins, and a write and a new scope keep it, which are laws; that no other rule changes a scope is seen in the
--- rules.
+-- a run begins, and a write and a new scope keep it, which are laws; that no other rule changes a scope, and that code
+-- runs in scopes of the run, is seen in the rules.
 pub record ScopesFit (s : RunState) : Type 0 where
   pub slots : map slots_in s.heap.scopes ≡ map size_of s.names
   pub newer : (i p : ScopeId) → parent_in (scope_at s.heap i) ≡ Some p → p.0 < i.0
@@ -108,7 +119,8 @@ WritesAreLookUps = (cx : Context) (x : BoundName) (v : Value) (place : Place) (s
 abbrev pub WritesBehindScopes : Type 0
 WritesBehindScopes = (cx : Context) (x : BoundName) (v : Value) (place : Place) (s : RunState)
     → holder x.name (environment_of s cx.scope) ≡ None
-    → (after : After RunState Stop RunEnd (Unit {0})) → write_name cx x v place after s ≡ put_on global_id x.name v place after s
+    → (after : After RunState Stop RunEnd (Unit {0}))
+    → write_name cx x v place after s ≡ put_on global_id x.name v place after s
 
 -- ---- new scopes (10.2.2.2)
 
@@ -123,13 +135,16 @@ pub record IsNewScope (i : ScopeId) (names : Scope) (around : ScopeId) (s t : Ru
   pub new : i.0 ≡ length s.names
   pub seen : environment_of t i ≡ new_scope i names (environment_of s around)
   pub before : (scope : ScopeId) → scope.0 < length s.names → environment_of t scope ≡ environment_of s scope
-  pub rest : t ≡ record s { heap = record s.heap { scopes = t.heap.scopes; cells = t.heap.cells }; names = s.names ++ names ∷ [] }
+  pub rest : t ≡ record s {
+    heap = record s.heap { scopes = t.heap.scopes; cells = t.heap.cells };
+    names = s.names ++ names ∷ [];
+  }
   pub fit : ScopesFit t
 
 -- Where the heap has room for it, there is a new scope around which stands a scope of the run. Where it has none, its
 -- refusal is a fault, as the rule has it.
 abbrev pub NewScopesAreAround : Type 0
-NewScopesAreAround = (names : Scope) (around : ScopeId) (place : Place) (s : RunState) (made : ScopeId × HeapView) → ScopesFit s
-    → around.0 < length s.names → scope_made_of s.heap (size_of names) (Some around) ≡ Ok made
+NewScopesAreAround = (names : Scope) (around : ScopeId) (place : Place) (s : RunState) (made : ScopeId × HeapView)
+    → ScopesFit s → around.0 < length s.names → scope_made_of s.heap (size_of names) (Some around) ≡ Ok made
     → (t : RunState) × IsNewScope made.0 names around s t
     × ((after : After RunState Stop RunEnd ScopeId) → make_scope names around place after s ≡ after (Ok made.0) t)

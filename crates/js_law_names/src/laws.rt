@@ -1,7 +1,8 @@
 // Laws over the definition of evaluation.
 ghost use Rattle.js_law_names.specs.Laws.{NamesAreSlots, ReadsRunByNames};
 ghost use Rattle.js_law_names.specs.LookUps.{DeletesAreLookUps, ReadsAreLookUps, TypesAreLookUps};
-ghost use Rattle.js_law_names.specs.Writes.{FirstScopesFit, FoundWhereHeld, NewScopesAreAround, WritesAreLookUps, WritesBehindScopes, WritesHaveTheirPlace, WrittenIsFound};
+ghost use Rattle.js_law_names.specs.Writes.{FirstScopesFit, FoundInPlace, FoundWhereHeld, NewScopesAreAround};
+ghost use Rattle.js_law_names.specs.Writes.{WritesAreLookUps, WritesBehindScopes, WritesHaveTheirPlace, WrittenIsFound};
 
 /// The run of a script by its names is the run of the resolved script by its slots, where no declared function has a
 /// name of its own.
@@ -32,8 +33,9 @@ pub fn deletes_are_look_ups()
     ensures { DeletesAreLookUps }
 {}
 
-/// Where each scope has as many slots as names, a write to a name changes the first pair of that name in the innermost
-/// scope that has it, and nothing else; the own name of a function expression keeps its value.
+/// Where each scope has as many slots as names and is newer than the scope around it, a write to a name changes the first
+/// pair of that name in the innermost scope that has it, and nothing else; the own name of a function expression keeps
+/// its value.
 pub fn writes_are_look_ups()
     ensures { WritesAreLookUps }
 {}
@@ -48,7 +50,8 @@ pub fn new_scopes_are_around()
     ensures { NewScopesAreAround }
 {}
 
-/// Where a run begins, each scope has as many slots as names, and is newer than the scope around it.
+/// Where a run begins, each scope has as many slots as names, and is newer than the scope around it. A write and a new
+/// scope keep this.
 pub fn first_scopes_fit()
     ensures { FirstScopesFit }
 {}
@@ -66,4 +69,9 @@ pub fn found_where_held()
 /// Behind a write a look-up finds what was written, but for a function expression's own name.
 pub fn written_is_found()
     ensures { WrittenIsFound }
+{}
+
+/// In each state, what a look-up finds is the value in the place that a write goes to.
+pub fn found_in_place()
+    ensures { FoundInPlace }
 {}
