@@ -18,3 +18,6 @@ mod OfEntries
 mod OfRuns
 pub mod ReadRuns
 pub mod OfLookUps
+pub mod OfWrites
+pub mod OfNewScopes
+pub mod OfPairs

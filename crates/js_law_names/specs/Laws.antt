@@ -7,8 +7,10 @@ use Rattle.js_evaluation.specs.Evaluation.{Entry, run_by_names, run_tree}
 use Rattle.js_law_right.specs.Anonymous.{DeclaredAreAnonymous}
 
 -- The run of a script by its names is the run of the resolved script, in which each name has its slot. They are one
--- tree: they ask and tell the same, in the same order, and with the same replies they come to the same end, with the
--- same heap and fuel.
+-- tree: they ask and tell the same, in the same order, and with the same replies they end in the same way. Where they
+-- come to an end with a state, its heap and fuel are the same; a fault is the same fault, and has no state. The law
+-- can't show a mistake that stands in both runs: in the rules themselves, or in the names of a function's scope
+-- (`names_of` of js_binding). Those are shown by the worked runs, and by a reader beside the standard.
 abbrev pub NamesAreSlots : Type 0
 NamesAreSlots = (script : List StatementTree) (entry : Entry) → DeclaredAreAnonymous script
     → run_by_names script entry ≡ run_tree (resolved script).0 (resolved script).1 entry
