@@ -15,6 +15,7 @@ use Rattle.url_runs.proofs.Counting.{few}
 use Rattle.url_runs.proofs.Sound as urls
 use Rattle.url_runs.proofs.Answered as urls_told
 use Rattle.memory_talk.proofs.Same as answered
+use Rattle.pac_command.proofs.Terms.{terms_are_read}
 use Rattle.pac_command.specs.Laws.{CommandsKeepLaws, ScriptIsRead}
 
 script_is_read : ScriptIsRead
@@ -32,4 +33,5 @@ laws = record {
   name_is_answered = name_told.answered;
   script_is_read = script_is_read;
   one_log = answered.one_log;
+  terms_are_read = terms_are_read;
 }

@@ -3,3 +3,4 @@ pub mod Programs
 pub mod Stepping
 pub mod Laws
 pub mod Generated
+pub mod Terms
