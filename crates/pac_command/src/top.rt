@@ -49,9 +49,9 @@ pub fn pac<F: Files, K: Sink, N: Link, C: Clock, D: Dice, L: Ledger>(
         (record { files = F.state files.old; link = N.state link.old; clock = C.told clock.old; dice = D.told dice.old; runs = runs.old })
         (record { files = F.state files.new; link = N.state link.new; clock = C.told clock.new; dice = D.told dice.new; runs = runs.new })
         (K.state out.old) (K.state out.new) result }
-    // What is polled for is sound, so where memory ran out the log is cut short; nothing is unanswered where each name is
-    // told; no URL costs more runs than the distinct names of its whole run, and one; and what `generate` reads and logs
-    // is one script and one log.
+    // For each log there is a map that agrees with it; what is polled for is sound, so where memory ran out the log is cut
+    // short; nothing is unanswered where each name is told; no URL costs more runs than the distinct names of its whole
+    // run, plus one; what `generate` reads and logs is one script and one log; and the words' wait and tries are in range.
     ensures laws { CommandsKeepLaws }
 {
     match output_of(alloc, words, files, link, clock, dice, runs) {
