@@ -15,4 +15,4 @@ use Rattle.js_evaluation.specs.Scoping.{by_slots}
 module _ (functions : List FunctionTree) (go : Within) (cx : Context) where
   -- the value, by the operator of the assignment, and then the write
   abbrev pub assigned_to : Place → Reference → Option BinaryOp → ExpressionTree → Does Value
-  assigned_to place r op e = rule.assigned_with by_slots functions go cx place r op e >>= (λ v. write cx r v place >> pure v)
+  assigned_to place r op e = rule.assigned_with by_slots functions go cx place r op e >>= (λ v. write by_slots cx r v place >> pure v)
