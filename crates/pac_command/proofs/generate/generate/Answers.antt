@@ -12,6 +12,9 @@ returns-in_err-input g c = λ o.
 pub read_script-requires : goal.read_script-requires
 read_script-requires g c = rw c.in_ok-input.ensures script_fits
 
+pub sum_script-requires-clause-read : goal.sum_script-requires-clause-read
+sum_script-requires-clause-read g c = (_, c.in-Ok.ensures)
+
 pub returns-in-Ok : goal.returns-in-Ok
 returns-in-Ok g c = λ o.
     sums c.args.generating.seed c.args.generating.sites c.in-Ok.script _ _ _ (rw c.in_ok-input.ensures at c.in-Ok.ensures) (c.sum_script.ensures o)
