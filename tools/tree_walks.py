@@ -1,4 +1,4 @@
-"""The walks over trees of scripts in js_binding and js_law_right, written from the types of trees: see `walks`.
+"""The walks over trees of scripts in js_binding, js_law_source and js_law_right, from the types of trees: see `walks`.
 
 A walk has an equation for each node, and all but the few that touch names, scopes and functions only go on to the
 parts. What is particular to those stands in the tables here; all else follows from the parts of a node.
@@ -8,6 +8,7 @@ import re
 NAME, FUNCTION, NUMBER = "BoundName", "FunctionTree", "ℕ"
 # The nodes in which a function stands whole, each with the one for its number.
 BY_NUMBER = {"Function": "Numbered", "Declare": "DeclareNumbered"}
+WHOLE = {number: whole for whole, number in BY_NUMBER.items()}
 # What is claimed of the function of each of these nodes.
 CLAIMS = {"Function": "expression", "Numbered": "numbered", "Declare": "declaration", "DeclareNumbered": "declared"}
 # The nodes whose parts stand in a scope of their own.
@@ -256,6 +257,43 @@ mutual
 {block(types, lambda tree: f"{stem(tree)}_same", same_signature, same_equation, function)}"""
 
 
+def back_equation(tree, node):
+    steps, source = [], [WHOLE.get(node.constructor, node.constructor)]
+    for part in node.parts:
+        if part.is_walked:
+            call = "back_placed" if part.kind == NUMBER else f"{stem(part.kind)}_back {part.name}"
+            steps.append((call, part.became + MARK))
+            source.append(f"(h{part.became} i)")
+        else:
+            source.append(f"(unbound {part.name})" if part.kind == NAME else part.name)
+    known = " ".join(f"h{part.became}" for part in reversed(node.walked))
+    last = f"(λ at {known}. λ i. {' '.join(source)})" if steps else "(λ at. refl)"
+    return node.pattern, chain("keeps_then", steps, f"keeps_pure {node.made('unbound', MARK)} {last}")
+
+
+def back_signature(tree):
+    it, of = LETTERS[tree], stem(tree)
+    return f"({it} : {tree}) → Back {of}_source ({of}_source none {it}) ({of}_numbered {it})"
+
+
+def write_back(types, trees):
+    function = """  pub function_back : (f : FunctionTree) → Back number_source (function_source none f) (function_numbered f)
+  function_back (a_function own parameters names body) = back_function own parameters names body (statements_back body)"""
+    sources, numbered = named(types, "_source") + ["function_source"], named(types, "_numbered") + ["function_numbered"]
+    return f"""-- Each tree with its functions by number has the source of the tree, once these are back in their places.
+use Rattle.std.proofs.Common.{{refl}}
+{trees}{use("js_binding.specs.Source", ["unbound", *sources])}
+{use("js_binding.specs.Numbered", numbered)}
+use Rattle.js_law_binding.proofs.Keeps.{{keeps_pure, keeps_then}}
+use Rattle.js_law_source.proofs.Back.{{Back, number_source, back_placed, back_function}}
+use Rattle.js_law_source.proofs.ReadScripts.{{none}}
+
+mutual
+  unfolding {" ".join([*sources, *numbered])}
+
+{block(types, lambda tree: f"{stem(tree)}_back", back_signature, back_equation, function)}"""
+
+
 def tells(tree):
     """The functions that tell which names a tree mentions and declares."""
     yield (MENTIONS.get(tree) or f"mentions_in_{stem(tree)}") + " y"
@@ -342,5 +380,6 @@ def walks(types, note, trees):
         "js_law_right/specs/Unbound.antt": write_unbound(types, trees),
         "js_law_right/proofs/KeptTrees.antt": write_keeps(types, trees),
         "js_law_right/proofs/SameTrees.antt": write_same(types, trees),
+        "js_law_source/proofs/BackTrees.antt": write_back(types, trees),
     }
     return {name: note + text for name, text in texts.items()}

@@ -3,9 +3,9 @@
 
 It reads crates/js_tree/specs/Tree.antt and writes Size.antt and Code.antt beside it; View.antt, the tree that the code's
 own structs and enums stand for, it writes from that file and from src/expression.rt and src/statement.rt together. The
-walks over trees of js_binding and js_law_right it writes too (tree_walks.py). Run it at the top of the repository after
-each change of a tree; with the word `--check` it writes nothing and ends with status 1 where a file is not the one that
-it would write.
+walks over trees of js_binding, js_law_source and js_law_right it writes too (tree_walks.py). Run it at the top of the
+repository after each change of a tree; with the word `--check` it writes nothing and ends with status 1 where a file is
+not the one that it would write.
 """
 import re
 import sys

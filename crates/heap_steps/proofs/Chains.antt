@@ -4,7 +4,6 @@ use Rattle.std.specs.Result.{IsErrAnd}
 use Rattle.js_tree.specs.declared.place.Place.{Place}
 use Rattle.heap_values.specs.declared.answer.HeapAnswer.{HeapAnswer}
 use Rattle.heap_values.specs.declared.answer.HeapAnswer.TheVariants as heap
-use Rattle.heap_values.specs.declared.value.Value.{Value}
 use Rattle.heap_values.specs.declared.value.Value.TheVariants as value
 use Rattle.heap_values.specs.Views.{HeapView}
 use Rattle.run_trees.specs.RunTree.{Done}

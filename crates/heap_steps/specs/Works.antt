@@ -27,13 +27,12 @@ use Rattle.heap_steps.specs.declared.halt.Halt.TheVariants as halt
 
 -- what a state has beside its heap and its fuel
 pub record Beside : Type 0 where
-  pub base : Value
   pub now : Moments
   pub settings : PacSettings
 
 abbrev pub state_with : HeapView → ℕ → Beside → RunState
 state_with heap fuel beside =
-    record { heap = heap; fuel = fuel; base = beside.base; now = beside.now; settings = beside.settings; names = [] }
+    record { heap = heap; fuel = fuel; now = beside.now; settings = beside.settings; names = [] }
 
 abbrev pub plain_fault : FaultCode → Place → Fault
 plain_fault code place = record { code = code; place = place; detail = [] }

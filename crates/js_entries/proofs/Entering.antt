@@ -1,12 +1,11 @@
 -- Functions that are entered: what is made of the end of one that is called or constructs.
 use Rattle.std.proofs.Common.{◌≡◌, ℕ, List, length, ap, Ok, Err, Result, Option, None, Some, refl, sym, subst, ◌∙◌, arith}
-use Rattle.std.specs.Prelude.{[], codes, slice_get}
+use Rattle.std.specs.Prelude.{codes, slice_get}
 use Rattle.std.specs.Result.{IsErrAnd}
 use Rattle.js_tree.specs.declared.place.Place.{Place}
 use Rattle.js_tree.specs.declared.expression.Function.{Function}
 use Rattle.js_tree.specs.Tree.{FunctionTree, statements_of}
 use Rattle.js_tree.specs.View.{function_of}
-use Rattle.heap_values.specs.declared.built_in.BuiltIn.{BuiltIn}
 use Rattle.heap_values.specs.declared.built_in.BuiltIn.TheVariants as built_in
 use Rattle.heap_values.specs.declared.ids.Kind.TheVariants as kind
 use Rattle.heap_values.specs.declared.ids.ObjectId.{ObjectId}
@@ -22,13 +21,14 @@ use Rattle.js_evaluation.specs.Parts.{Within}
 use Rattle.js_evaluation.specs.Scoping.{by_slots}
 use Rattle.heap_steps.specs.declared.halt.Halt.{Halt}
 use Rattle.heap_steps.specs.declared.halt.Halt.TheVariants as halt
-use Rattle.heap_steps.specs.Works.{Works, state_with}
+use Rattle.heap_steps.specs.Works.{Works}
 use Rattle.js_machine.specs.declared.machine.Machine.{Machine}
 use Rattle.js_machine.specs.declared.now.Now.{Now}
 use Rattle.js_machine.specs.declared.now.Now.TheVariants as now
-use Rattle.js_machine.specs.Moves.{Moves, at, functions_of, inner, left, run_state, weight, beside_of}
+use Rattle.js_machine.specs.Moves.{Leads, Moves, at, functions_of, inner, left, run_state, weight}
 use Rattle.js_evaluation.specs.Objects.{Context, get}
 use Rattle.js_frames.specs.Parts.{context_of}
+use Rattle.js_frames.specs.Rests.{DoesEither, giving}
 use Rattle.js_frames.specs.RestOf.{rest_of}
 use Rattle.js_evaluation.specs.Statements.{statements_from}
 use Rattle.js_machine.proofs.Steps.{with_heap, works_stops}
@@ -41,8 +41,8 @@ pub scope_by_number : (scope : ScopeId) (n : ℕ) → scope.0 ≡ n → scope �
 scope_by_number scope n e = ap (λ k. record { 0 = k }) e
 
 -- a part of which the same is left at another machine, which is as heavy
-pub moves_from : {p q : Does Value} {m n m' : Machine} (r : Result Now Halt)
-    → ((last : AfterValue) → left last m p ≡ left last n q) → weight n ≡ weight m → Moves q n r m' → Moves p m r m'
+pub moves_from : {p q : DoesEither} {m n m' : Machine} (r : Result Now Halt)
+    → ((last : AfterValue) → left last m p ≡ left last n q) → weight n ≡ weight m → Leads q n r m' → Leads p m r m'
 moves_from (Ok what) same even k = record { goes = λ last. same last ∙ k.goes last; light = omega (arith, even, k.light) }
 moves_from (Err (halt.Throw t)) same even k = record { goes = λ last. same last ∙ k.goes last; light = omega (arith, even, k.light) }
 moves_from (Err (halt.Fault c place)) same even k = record { goes = λ last. same last ∙ k.goes last; light = tt }
@@ -108,8 +108,8 @@ module _ (m : Machine) (made : Option ObjectId) (around : ScopeId) (this : Value
   pub no_function : (n : ℕ) (v : Value) → None ≡ slice_get (functions_of m) n → v ≡ nothing made
       → Moves (at m entered_by made n around this vs p) m (Ok (now.Back (Ok v))) m
   no_function n v e here = record {
-    goes = λ last. entered_none (functions_of m) (inner m) (context_of m.context) made n around this vs p (rest_of (functions_of m) last m.frames) (run_state m.state) (sym e)
-        ∙ ap (λ w. rest_of (functions_of m) last m.frames (Ok w) (run_state m.state)) (sym here);
+    goes = λ last. entered_none (functions_of m) (inner m) (context_of m.context) made n around this vs p (rest_of (functions_of m) last m.frames).given (run_state m.state) (sym e)
+        ∙ ap (λ w. (rest_of (functions_of m) last m.frames).given (Ok w) (run_state m.state)) (sym here);
     light = omega arith;
   }
 
@@ -162,6 +162,6 @@ module _ (a b : Does (Unit {0})) (c : Does Value) (m : Machine) where
     pub second_load_stops : (e : Halt) → IsErrAnd r (λ x. x ≡ e) → Works b h (Err e) h' → Moves (a >> b >> c) m r (with_heap m h')
     second_load_stops e i w = works_stops (a >> b) (λ _. c) m h' r e i (chained a (λ _. b) m.state.heap h tt (Err e) h' done w)
 
-    pub loads : (q : Does Value) (n m' : Machine) → Works b h (Ok tt) h' → ((last : AfterValue) → left last (with_heap m h') c ≡ left last n q) → weight n ≡ weight m
+    pub loads : (q : Does Value) (n m' : Machine) → Works b h (Ok tt) h' → ((last : AfterValue) → left last (with_heap m h') (giving c) ≡ left last n (giving q)) → weight n ≡ weight m
         → Moves q n r m' → Moves (a >> b >> c) m r m'
     loads q n m' w same even k = moves_from r (λ last. done.is _ _ _ ∙ w.is _ _ _ ∙ same last) even k

@@ -2,9 +2,8 @@
 ghost use Rattle.std.specs.Prelude.{◌≡◌, Err, None, Ok, Some};
 ghost use Rattle.js_tree.specs.Tree.{statements_of};
 ghost use Rattle.heap_values.specs.declared.value.Value.{Value};
-ghost use Rattle.js_frames.specs.declared.frame.EntryFrame.TheVariants as of_entry;
 ghost use Rattle.js_frames.specs.declared.frame.Frame.TheVariants as frame;
-ghost use Rattle.js_machine.specs.Moves.{Moves, at, resumed};
+ghost use Rattle.js_machine.specs.Moves.{Leads, Moves, at, resumed};
 ghost use Rattle.js_entries.specs.Entries as spec;
 
 use heap_values::{ObjectId, Value};
@@ -64,7 +63,7 @@ fn constructing_body<'p>(
 
 /// A statement of a body is done: the next one is executed, or the call is at its end.
 pub fn entry_back<'p>(machine: &mut Machine<'p>, part: EntryFrame<'p>) -> Step<'p>
-    ensures { (v : Value) → Moves (at machine.old resumed (frame.Entry part.entry) (Ok v)) machine.old result machine.new }
+    ensures { (v : Value) → Leads (at machine.old resumed (frame.Entry part.entry) (Ok v)) machine.old result machine.new }
 {
     match part {
         EntryFrame::Body { rest } => called_body(machine, rest),
@@ -79,7 +78,7 @@ pub fn entry_stopped<'p>(
     part: EntryFrame<'p>,
     stop: Abrupt<Thrown, Value, ()>,
 ) -> Step<'p>
-    ensures { Moves (at machine.old resumed (frame.Entry part.entry) (Err stop)) machine.old result machine.new }
+    ensures { Leads (at machine.old resumed (frame.Entry part.entry) (Err stop)) machine.old result machine.new }
 {
     match part {
         EntryFrame::Body { .. } => Ok(Now::Back(called(stop))),

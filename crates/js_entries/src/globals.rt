@@ -16,17 +16,14 @@ ghost use Rattle.js_entries.specs.Names.{declared_in};
 use crate::names::{declared, function_object};
 use heap_steps::{Halt, define, throw_type_error};
 use heap_values::{BuiltIn, Found, Kind, ObjectId, Value};
-use js_frames::Context;
+use js_frames::{Context, OUTSIDE};
 use js_machine::{Machine, Step};
 use js_statements::statements_from;
-use js_tree::{Function, NameList, Place, Statement};
+use js_tree::{Function, NameList, Statement};
 use object_heap::{Heap, Marks};
 use scope_names::add_variables;
 use std::alloc::Global;
 use utf16_text::{Memory, Text};
-
-/// The place of what arises outside every node.
-pub const OUTSIDE: Place = Place { line: 0, column: 0 };
 
 /// The marks of what a script declares.
 const DECLARED: Marks = Marks {

@@ -13,4 +13,4 @@ mod names;
 
 pub use bodies::{entry_back, entry_stopped};
 pub use calls::{call_node, construct_node};
-pub use globals::{OUTSIDE, load_node};
+pub use globals::load_node;

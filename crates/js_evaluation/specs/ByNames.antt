@@ -21,8 +21,8 @@ use Rattle.js_evaluation.specs.Objects.{Context, global_id, global_value, found_
 -- ---- a look-up (8.7, 10.2.2.1)
 
 -- Where a name stands in a run, which is the base of its reference: in this place of this scope; in this scope as the
--- own name of a function expression, whose binding is immutable (10.2.1.1.7); or in the global object, where that has
--- it.
+-- own name of a function expression, whose binding is immutable (10.2.1.1.7); or in the global object, which may not
+-- have it: then the reference is unresolvable.
 pub data Standing : Type 0 where
   in_scope : ScopeId → ℕ → Standing
   in_own : ScopeId → Standing
@@ -59,7 +59,7 @@ read_at x place in_global = reading (λ s. global_value x (found_of s.heap globa
 abbrev pub read_name : Context → BoundName → Place → Does Value
 read_name cx x place = reading (λ s. read_at x.name place (standing s cx.scope x.name))
 
--- of which `typeof` asks: a name that stands for nothing is undefined (11.4.3)
+-- what `typeof` reads: undefined for a name that stands for nothing (11.4.3)
 abbrev pub read_or_undefined_at : List ℕ → Place → Standing → Does Value
 read_or_undefined_at x place in_global = reading (λ s. found_value Undefined (found_of s.heap global_id x) place)
 read_or_undefined_at x place at = read_at x place at

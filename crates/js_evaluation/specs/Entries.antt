@@ -63,7 +63,7 @@ arguments_object p vs = do
 abbrev pub has_name : List ℕ → List (List ℕ) → Bool
 has_name x names = list_any (bytes_eq x) names
 
--- a parameter or a function of that name stands in the place of the object (10.5, step 7)
+-- a parameter or a function of that name stands in the place of the object (10.5, steps 6 and 7)
 abbrev pub has_own_arguments : List BoundName → Statements → Bool
 has_own_arguments parameters body = has_name arguments_name (map (λ x. x.name) parameters) || has_name arguments_name (functions_of body)
 
@@ -92,8 +92,8 @@ abbrev pub is_left_out : Content → Bool
 is_left_out (content.LeftOut t) = true
 is_left_out (content.Value v) = false
 
--- whether a global property that was there gives way to a function: one that can be deleted, a listed one, which
--- can be written, and one that is left out
+-- whether a global property that was there gives way to a function (10.5, step 5.e): one that is [[Configurable]], a
+-- listed one, which is [[Writable]] too, and one that is left out (profile)
 abbrev pub gives_way : Property → Bool
 gives_way old = old.deletable || old.listed || is_left_out old.content
 
@@ -117,6 +117,7 @@ global_functions functions cx p (a_statement (DeclareNumbered q x n) ss) =
 global_functions functions cx p (a_statement s ss) = global_functions functions cx p ss
 
 -- a variable is a property of the global object, unless it has one of that name, by itself or by its prototype
+-- (10.5, step 8; HasBinding, 10.2.1.2.1)
 abbrev pub declared_unless : Found → List ℕ → Place → Does (Unit {0})
 declared_unless found.Absent name p = define global_id name value.Undefined true false p
 declared_unless f name p = pure tt

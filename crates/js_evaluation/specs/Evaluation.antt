@@ -29,7 +29,7 @@ use Rattle.js_evaluation.specs.declared.fault.FaultCode.TheVariants as code
 use Rattle.js_evaluation.specs.State.{RunState, nameless, RunEnd, Comes, Faults, Does, fault, charge, test_text, global_object}
 use Rattle.js_evaluation.specs.Objects.{global_id, is_callable}
 use Rattle.js_evaluation.specs.Scoping.{Scoping, by_names, by_slots}
-use Rattle.js_evaluation.specs.Parts.{Part, expression_part, target_part, statement_part, call_part, construct_part, load_part, Within, part_place, outside}
+use Rattle.js_evaluation.specs.Parts.{Part, expression_part, statement_part, call_part, construct_part, load_part, Within, expression_place, part_place, outside}
 use Rattle.js_evaluation.specs.NativeWork.{class_of_kind}
 use Rattle.js_evaluation.specs.Natives.{joined}
 use Rattle.js_evaluation.specs.Expressions.{expression_node, target_node}
@@ -43,7 +43,6 @@ use Rattle.js_host.specs.declared.limits.TheConstants.{MOST_UNITS}
 module _ (scoping : Scoping) (functions : List FunctionTree) (go : Within) where
   abbrev pub node : Part → Does Value
   node (expression_part cx e) = expression_node scoping functions go cx e
-  node (target_part cx e) = target_node scoping functions go cx e
   node (statement_part cx s) = statement_node scoping functions go cx s
   node (call_part f this vs p) = call_node scoping functions go f this vs p
   node (construct_part f vs p) = construct_node scoping functions go f vs p
@@ -53,9 +52,14 @@ module _ (scoping : Scoping) (functions : List FunctionTree) (go : Within) where
 
 -- Each part is charged before it is done; past the most open parts it is a fault.
 unfoldable pub evaluation : Scoping → List FunctionTree → ℕ → Within
-evaluation scoping functions zero part = charge (part_place part) >> fault code.TooDeep (part_place part)
-evaluation scoping functions (suc room) part =
-    charge (part_place part) >> node scoping functions (evaluation scoping functions room) part
+evaluation scoping functions zero = record {
+  value = λ part. charge (part_place part) >> fault code.TooDeep (part_place part);
+  reference = λ cx e. charge (expression_place e) >> fault code.TooDeep (expression_place e);
+}
+evaluation scoping functions (suc room) = record {
+  value = λ part. charge (part_place part) >> node scoping functions (evaluation scoping functions room) part;
+  reference = λ cx e. charge (expression_place e) >> target_node scoping functions (evaluation scoping functions room) cx e;
+}
 
 -- ---- a run
 
@@ -82,18 +86,18 @@ module _ (scoping : Scoping) (functions : List FunctionTree) (entry : Entry) whe
   called_for None = fault code.NoEntry outside
   called_for (Some f) =
       test_text entry.url outside >> test_text entry.host outside
-      >> evaluation scoping functions MOST_OPEN (call_part f global_object (value.Text entry.url ∷ value.Text entry.host ∷ []) outside)
+      >> (evaluation scoping functions MOST_OPEN).value (call_part f global_object (value.Text entry.url ∷ value.Text entry.host ∷ []) outside)
 
   -- the script is loaded, and then its function `FindProxyForURL` is called with the URL and the host
   abbrev pub script_run : Statements → Does Value
   script_run ss =
-      evaluation scoping functions MOST_OPEN (load_part outer_scope ss)
+      (evaluation scoping functions MOST_OPEN).value (load_part outer_scope ss)
       >> reading (λ s. called_for (entry_of s.heap (found_of s.heap global_id (codes "FindProxyForURL"))))
 
 -- the heap at the beginning of a run holds the built-in objects alone
 abbrev pub first_state : Scoping → Entry → RunState
 first_state scoping entry =
-    record { heap = fresh_heap; fuel = entry.fuel; base = value.Undefined; now = entry.now; settings = entry.settings; names = scoping.outermost }
+    record { heap = fresh_heap; fuel = entry.fuel; now = entry.now; settings = entry.settings; names = scoping.outermost }
 
 -- a run as a tree of what it asks of its host
 abbrev pub tree_by : Scoping → Statements → List FunctionTree → Entry → RunTree RunEnd

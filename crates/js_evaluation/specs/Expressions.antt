@@ -1,10 +1,9 @@
 -- What expressions do (ECMA-262 5.1, section 11). Each rule is what comes behind the charge for its node. A visit gives
--- a value, so GetValue (8.7.1) is part of each rule; where the standard needs the reference, an expression is visited
--- as a target. Functions stand by number, and the parser has tested targets, so some cases are met by no script.
+-- a value, GetValue (8.7.1) included; where the standard needs the Reference itself, an expression is evaluated up to it
+-- (`refer`). Functions stand by number, and the parser has tested targets, so some cases are met by no script.
 use Rattle.std.specs.Prelude.{ℕ, ◌+◌, pos, neg_ℤ, ◌-ℤ◌, List, [], ◌∷◌, ◌++◌, Bool, true, false, not, if◌then◌else◌, Option, Some, None, slice_get, codes}
 use Rattle.std.specs.Fmt.{decimal}
 use Rattle.js_tree.specs.declared.place.Place.{Place}
-use Rattle.js_tree.specs.declared.bound.BoundName.{BoundName}
 use Rattle.js_tree.specs.declared.operators.BinaryOp.{BinaryOp}
 use Rattle.js_tree.specs.declared.operators.BinaryOp.TheVariants as op
 use Rattle.js_tree.specs.declared.operators.AssignOp.{AssignOp}
@@ -26,33 +25,49 @@ use Rattle.object_heap.specs.Heap.{object_at, kind_in}
 use Rattle.js_convert.specs.Numeric.{truth_of}
 use Rattle.js_convert.specs.Texts.{text_of}
 use Rattle.run_trees.specs.Runs.{pure, reading, ◌>>=◌, ◌>>◌}
-use Rattle.js_evaluation.specs.State.{Does, charge, make, define, write_slot, test_text, built_in_object, global_object, set_base, the_base, throw_type_error, unsupported}
+use Rattle.js_evaluation.specs.State.{Does, charge, make, define, write_slot, test_text, built_in_object, global_object, throw_type_error, unsupported}
 use Rattle.js_evaluation.specs.Objects.{Context, get, put, test_base, delete_property, closure, arity_of}
 use Rattle.js_evaluation.specs.Scoping.{Scoping}
-use Rattle.js_evaluation.specs.Parts.{Within, visit, visit_target, calls, construct, expression_place, suffix_place, last_place}
-use Rattle.js_evaluation.specs.Conversions.{call_value, text_methods, to_primitive, to_number, to_bits, binary, stepped, assigned_by, type_text}
+use Rattle.js_evaluation.specs.Parts.{Reference, to_name, to_property, Within, visit, refer, calls, construct, outside, suffix_place}
+use Rattle.js_evaluation.specs.Conversions.{call_value, to_text, to_number, to_bits, binary, stepped, assigned_by, type_text}
 use Rattle.js_evaluation.specs.NativeTable.{constructs, native_of, native_name}
 
 -- ---- references (8.7)
 
--- what a value can be read from and written to: a name, or a property of a base
-pub data Reference : Type 0 where
-  to_name : Place → BoundName → Reference
-  to_property : Place → Value → List ℕ → Reference
-
--- The reference of a target that was evaluated: the key is what its evaluation gave, which for a name says nothing.
-abbrev pub referred : ExpressionTree → Value → Value → Reference
-referred (Name p x) key base = to_name p x
-referred (Suffixed p e ss) key base = to_property (last_place p ss) base (text_of key)
-referred e key base = to_property (expression_place e) base (text_of key)
-
+-- GetValue (8.7.1)
 abbrev pub read : Scoping → Context → Reference → Does Value
 read scoping cx (to_name p x) = scoping.read_name cx x p
-read scoping cx (to_property p base key) = get base key p
+read scoping cx (to_property p base name) = get base name p
 
+-- what `typeof` reads: undefined for a name that stands for nothing (11.4.3)
+abbrev pub read_or_undefined : Scoping → Context → Reference → Does Value
+read_or_undefined scoping cx (to_name p x) = scoping.read_or_undefined cx x p
+read_or_undefined scoping cx (to_property p base name) = get base name p
+
+-- PutValue (8.7.2)
 abbrev pub write : Scoping → Context → Reference → Value → Place → Does (Unit {0})
 write scoping cx (to_name p x) v place = scoping.write_name cx x v place
-write scoping cx (to_property p base key) v place = put base key v place
+write scoping cx (to_property p base name) v place = put base name v place
+
+-- steps 3 to 5 of 11.4.1
+abbrev pub delete : Scoping → Context → Reference → Place → Does Value
+delete scoping cx (to_name p x) place = scoping.delete_name cx x place
+delete scoping cx (to_property p base name) place = delete_property base name place
+
+-- The `this` of a call of what is referred to: the base of a property, and for a name the global object (11.2.3, 10.4.3;
+-- profile: for built-in functions too).
+abbrev pub this_of : Reference → Value
+this_of (to_name p x) = global_object
+this_of (to_property p base name) = base
+
+-- It stands where there is no Reference; only names and properties are asked for one, so it comes up in no run.
+abbrev pub no_reference : Reference
+no_reference = to_property outside value.Undefined (text_of value.Undefined)
+
+-- whether an expression refers to a property; brackets around it change nothing (11.1.6)
+abbrev pub refers_to_property : ExpressionTree → Bool
+refers_to_property (Suffixed p e ss) = is_target (Suffixed p e ss)
+refers_to_property e = false
 
 -- ---- what visits no part
 
@@ -67,12 +82,6 @@ end_of_array p array count false = pure (value.Object array)
 
 abbrev pub text_literal : Place → List ℕ → Does Value
 text_literal p t = test_text t p >> pure (value.Text t)
-
--- The `this` of a call of an expression as it stands: the base of the reference that it is, where it is one (11.2.3),
--- and else the global object, for built-in functions too (10.4.3; profile). Brackets around it change nothing (11.1.6).
-abbrev pub this_behind : ExpressionTree → Does Value
-this_behind (Suffixed p e ss) = the_base
-this_behind e = pure global_object
 
 abbrev pub not_a_constructor : {A : Type 0} → Place → Does A
 not_a_constructor p = throw_type_error (codes "not a constructor") p
@@ -121,46 +130,54 @@ module _ (scoping : Scoping) (functions : List FunctionTree) (go : Within) where
   arguments_from cx done no_expression = pure done
   arguments_from cx done (an_expression e es) = visit go cx e >>= (λ v. arguments_from cx (done ++ v ∷ []) es)
 
-  -- the index of a value: the expression, the test of the base, and the key, a primitive value whose text is the name
-  abbrev pub key_of : Context → Value → ExpressionTree → Place → Does Value
-  key_of cx base e p = visit go cx e >>= (λ v. test_base base p >> to_primitive (calls go) text_methods v p)
+  -- the name under an index of a base: the expression is evaluated, the base is tested, and the value becomes a text
+  abbrev pub name_under : Context → Value → ExpressionTree → Place → Does (List ℕ)
+  name_under cx base e p = visit go cx e >>= (λ v. test_base base p >> to_text (calls go) v p)
 
-  -- what a suffix gives of a value, beside the value that a call behind it has as its `this`; the first of the two that
-  -- are handed in is the `this` of a call
+  -- what a suffix of a value refers to (11.2.1)
+  abbrev pub referred_at : Context → Value → SuffixTree → Does Reference
+  referred_at cx v (a_member p name) = test_base v p >> pure (to_property p v name)
+  referred_at cx v (an_index p e) = name_under cx v e p >>= (λ name. pure (to_property p v name))
+  referred_at cx v (a_call p es) = pure no_reference
+
+  -- the `this` that a call of what is referred to has, and its value
+  abbrev pub read_with_this : Context → Reference → Does (Value × Value)
+  read_with_this cx r = read scoping cx r >>= (λ v. pure (this_of r, v))
+
+  -- a suffix of a value that is called with this `this`: it gives the `this` for a call behind it, and its value
   abbrev pub suffix_at : Context → Value → Value → SuffixTree → Does (Value × Value)
-  suffix_at cx this v (a_member p name) = test_base v p >> get v name p >>= (λ w. pure (v, w))
-  suffix_at cx this v (an_index p e) = key_of cx v e p >>= (λ key. get v (text_of key) p >>= (λ w. pure (v, w)))
   suffix_at cx this v (a_call p es) = arguments_from cx [] es >>= (λ vs. call_value (calls go) v this vs p >>= (λ w. pure (global_object, w)))
+  suffix_at cx this v s = referred_at cx v s >>= (λ r. read_with_this cx r)
 
-  -- each suffix is charged where it is applied; the base of the last one stays
+  -- each suffix is charged where it is applied
   abbrev pub suffixes_from : Context → Value → Value → Suffixes → Does Value
-  suffixes_from cx this v no_suffix = set_base this >> pure v
+  suffixes_from cx this v no_suffix = pure v
   suffixes_from cx this v (a_suffix s ss) = charge (suffix_place s) >> suffix_at cx this v s >>= (λ x. suffixes_from cx x.0 x.1 ss)
 
+  -- The `this` that a call of an expression has, and its value (11.2.3): that of a value that is no reference is the
+  -- global object.
+  abbrev pub with_this : Context → ExpressionTree → Does (Value × Value)
+  with_this cx e =
+      if refers_to_property e then refer go cx e >>= (λ r. read_with_this cx r)
+      else visit go cx e >>= (λ v. pure (global_object, v))
+
   abbrev pub suffixed : Context → ExpressionTree → Suffixes → Does Value
-  suffixed cx first ss = visit go cx first >>= (λ v. this_behind first >>= (λ this. suffixes_from cx this v ss))
+  suffixed cx first ss = with_this cx first >>= (λ x. suffixes_from cx x.0 x.1 ss)
 
-  -- ---- targets of writes
+  -- ---- what is referred to (8.7, 11.2.1)
 
-  -- the last suffix of a target: its base stays, and its key is given
-  abbrev pub last_at : Context → Value → SuffixTree → Does Value
-  last_at cx v (a_member p name) = test_base v p >> set_base v >> pure (value.Text name)
-  last_at cx v (an_index p e) = key_of cx v e p >>= (λ key. set_base v >> pure key)
-  last_at cx v (a_call p es) = pure value.Undefined
-
-  abbrev pub target_suffixes : Context → Value → Value → Suffixes → Does Value
-  target_suffixes cx this v no_suffix = pure value.Undefined
-  target_suffixes cx this v (a_suffix s no_suffix) = charge (suffix_place s) >> last_at cx v s
+  -- the last suffix isn't read
+  abbrev pub target_suffixes : Context → Value → Value → Suffixes → Does Reference
+  target_suffixes cx this v no_suffix = pure no_reference
+  target_suffixes cx this v (a_suffix s no_suffix) = charge (suffix_place s) >> referred_at cx v s
   target_suffixes cx this v (a_suffix s (a_suffix t ss)) =
       charge (suffix_place s) >> suffix_at cx this v s >>= (λ x. target_suffixes cx x.0 x.1 (a_suffix t ss))
 
-  -- An expression as a target: it is evaluated up to its reference, and isn't read.
-  abbrev pub target_node : Context → ExpressionTree → Does Value
-  target_node cx (Suffixed p first ss) = visit go cx first >>= (λ v. this_behind first >>= (λ this. target_suffixes cx this v ss))
-  target_node cx e = pure value.Undefined
-
-  abbrev pub reference : Context → ExpressionTree → Does Reference
-  reference cx e = visit_target go cx e >>= (λ key. the_base >>= (λ base. pure (referred e key base)))
+  -- an expression up to what it refers to
+  abbrev pub target_node : Context → ExpressionTree → Does Reference
+  target_node cx (Name p x) = pure (to_name p x)
+  target_node cx (Suffixed p first ss) = with_this cx first >>= (λ x. target_suffixes cx x.0 x.1 ss)
+  target_node cx e = pure no_reference
 
   -- ---- `new` (11.2.2)
 
@@ -180,7 +197,7 @@ module _ (scoping : Scoping) (functions : List FunctionTree) (go : Within) where
 
   abbrev pub updated : Context → Place → UpdateForm → UpdateOp → ExpressionTree → Does Value
   updated cx p f o e = do
-    r ← reference cx e
+    r ← refer go cx e
     old ← read scoping cx r
     n ← to_number (calls go) old p
     m ← stepped (calls go) o n p
@@ -189,13 +206,12 @@ module _ (scoping : Scoping) (functions : List FunctionTree) (go : Within) where
 
   -- an expression that is no reference has nothing that could be deleted (11.4.1)
   abbrev pub deleted : Context → Place → ExpressionTree → Does Value
-  deleted cx p (Name q x) = visit_target go cx (Name q x) >> scoping.delete_name cx x p
   deleted cx p e =
-      if is_target e then visit_target go cx e >>= (λ key. the_base >>= (λ base. delete_property base (text_of key) p))
+      if is_target e then refer go cx e >>= (λ r. delete scoping cx r p)
       else visit go cx e >> pure (value.Bool true)
 
   abbrev pub type_of : Context → ExpressionTree → Does Value
-  type_of cx (Name p x) = visit_target go cx (Name p x) >> scoping.read_or_undefined cx x p
+  type_of cx (Name p x) = refer go cx (Name p x) >>= (λ r. read_or_undefined scoping cx r)
   type_of cx e = visit go cx e
 
   -- the operators in front of an operand (11.4)
@@ -233,7 +249,7 @@ module _ (scoping : Scoping) (functions : List FunctionTree) (go : Within) where
   assigned_with cx p r (Some o) e = read scoping cx r >>= (λ old. visit go cx e >>= (λ v. binary (calls go) o old v p))
 
   abbrev pub assigned : Context → Place → ExpressionTree → AssignOp → ExpressionTree → Does Value
-  assigned cx p e o value = reference cx e >>= (λ r. assigned_with cx p r (assigned_by o) value >>= (λ v. write scoping cx r v p >> pure v))
+  assigned cx p e o value = refer go cx e >>= (λ r. assigned_with cx p r (assigned_by o) value >>= (λ v. write scoping cx r v p >> pure v))
 
   -- the value of the last of them
   abbrev pub comma_from : Context → Value → Expressions → Does Value

@@ -20,3 +20,4 @@ pub mod RuleExamples
 pub mod Scoping
 pub mod State
 pub mod Statements
+pub mod Walks

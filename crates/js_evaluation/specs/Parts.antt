@@ -1,7 +1,9 @@
--- What evaluation opens: the parts of a script that are evaluated one within the other, with the place of each.
-use Rattle.std.specs.Prelude.{List}
+-- What evaluation opens: the parts of a script that are evaluated one within the other, with the place of each; and
+-- what they refer to.
+use Rattle.std.specs.Prelude.{ℕ, List}
 use Rattle.js_tree.specs.declared.place.Place.{Place}
-use Rattle.js_tree.specs.Tree.{ExpressionTree, Number, Characters, True, False, Null, This, Name, Array, Object, Function, Numbered, Suffixed, New, Update, Unary, Chain, Conditional, Assign, Comma, SuffixTree, a_member, an_index, a_call, Suffixes, no_suffix, a_suffix, StatementTree, Block, Empty, Evaluate, Debugger, Var, If, DoWhile, While, For, ForIn, Continue, Break, Return, Throw, Switch, Try, Declare, DeclareNumbered, Statements}
+use Rattle.js_tree.specs.declared.bound.BoundName.{BoundName}
+use Rattle.js_tree.specs.Tree.{ExpressionTree, Number, Characters, True, False, Null, This, Name, Array, Object, Function, Numbered, Suffixed, New, Update, Unary, Chain, Conditional, Assign, Comma, SuffixTree, a_member, an_index, a_call, StatementTree, Block, Empty, Evaluate, Debugger, Var, If, DoWhile, While, For, ForIn, Continue, Break, Return, Throw, Switch, Try, Declare, DeclareNumbered, Statements}
 use Rattle.heap_values.specs.declared.ids.ObjectId.{ObjectId}
 use Rattle.heap_values.specs.declared.ids.ScopeId.{ScopeId}
 use Rattle.heap_values.specs.declared.value.Value.{Value}
@@ -9,38 +11,46 @@ use Rattle.js_evaluation.specs.State.{Does}
 use Rattle.js_evaluation.specs.Objects.{Context}
 use Rattle.js_evaluation.specs.Conversions.{Call}
 
--- What can be open: an expression; one up to its reference, as a target; a statement; a call, by its function, `this`,
--- arguments and place; a construction; the load of a script.
+-- What is evaluated to a value: an expression; a statement; a call, by its function, `this`, arguments and place; a
+-- construction; the load of a script. An expression that is evaluated up to its reference is open as well.
 pub data Part : Type 0 where
   expression_part : Context → ExpressionTree → Part
-  target_part : Context → ExpressionTree → Part
   statement_part : Context → StatementTree → Part
   call_part : ObjectId → Value → List Value → Place → Part
   construct_part : ObjectId → List Value → Place → Part
   load_part : ScopeId → Statements → Part
 
+-- What an expression refers to, so that it can be read, written and deleted (8.7): a name, or a base and the name of its
+-- property; with the place where it is read. The base of a name is looked up at each use (ByNames says why it is the
+-- same).
+pub data Reference : Type 0 where
+  to_name : Place → BoundName → Reference
+  to_property : Place → Value → List ℕ → Reference
+
 -- ---- the parts within
 
--- evaluation of them, with room for one part less
-abbrev pub Within : Type 0
-Within = Part → Does Value
+-- evaluation of them, with room for one part less: of a part up to its value, and of an expression up to its reference
+pub record Within : Type 0 where
+  pub value : Part → Does Value
+  pub reference : Context → ExpressionTree → Does Reference
 
 module _ (go : Within) where
+  -- an expression up to its value
   abbrev pub visit : Context → ExpressionTree → Does Value
-  visit cx e = go (expression_part cx e)
+  visit cx e = go.value (expression_part cx e)
 
-  -- an expression up to its reference: its key is given, and its base stays
-  abbrev pub visit_target : Context → ExpressionTree → Does Value
-  visit_target cx e = go (target_part cx e)
+  -- an expression up to what it refers to
+  abbrev pub refer : Context → ExpressionTree → Does Reference
+  refer cx e = go.reference cx e
 
   abbrev pub execute : Context → StatementTree → Does Value
-  execute cx s = go (statement_part cx s)
+  execute cx s = go.value (statement_part cx s)
 
   abbrev pub calls : Call
-  calls f this vs p = go (call_part f this vs p)
+  calls f this vs p = go.value (call_part f this vs p)
 
   abbrev pub construct : ObjectId → List Value → Place → Does Value
-  construct f vs p = go (construct_part f vs p)
+  construct f vs p = go.value (construct_part f vs p)
 
 -- ---- places
 
@@ -70,10 +80,6 @@ suffix_place (a_member p x) = p
 suffix_place (an_index p e) = p
 suffix_place (a_call p es) = p
 
-abbrev pub last_place : Place → Suffixes → Place
-last_place p no_suffix = p
-last_place p (a_suffix s ss) = last_place (suffix_place s) ss
-
 abbrev pub statement_place : StatementTree → Place
 statement_place (Block p ss) = p
 statement_place (Empty p) = p
@@ -100,7 +106,6 @@ outside = record { line = 0; column = 0 }
 
 abbrev pub part_place : Part → Place
 part_place (expression_part cx e) = expression_place e
-part_place (target_part cx e) = expression_place e
 part_place (statement_part cx s) = statement_place s
 part_place (call_part f this vs p) = p
 part_place (construct_part f vs p) = p

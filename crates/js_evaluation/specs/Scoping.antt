@@ -16,7 +16,7 @@ use Rattle.js_evaluation.specs.BySlots as slots
 
 pub record Scoping : Type 0 where
   pub read_name : Context → BoundName → Place → Does Value
-  -- of which `typeof` asks
+  -- what `typeof` reads: undefined for a name that stands for nothing (11.4.3)
   pub read_or_undefined : Context → BoundName → Place → Does Value
   pub write_name : Context → BoundName → Value → Place → Does (Unit {0})
   pub delete_name : Context → BoundName → Place → Does Value

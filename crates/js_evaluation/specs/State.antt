@@ -1,6 +1,7 @@
 -- The state of a run, how a run ends, and the words that its rules are written in. In the standard's words a text is a
 -- String value, a native a built-in function, the kind of an object its [[Class]] and code, a listed property one that
--- is [[Enumerable]], and a deletable one one that is [[Configurable]]. No script can catch a fault.
+-- is [[Enumerable]], and a deletable one is [[Configurable]]. A name that stands for nothing is an unresolvable
+-- reference. No script can catch a fault.
 use Rattle.std.specs.Prelude.{ℕ, ◌-◌, List, [], length, Bool, true, false, if◌then◌else◌, nat_lt, Option, Some, Result, Ok, Err, codes}
 use Rattle.js_tree.specs.declared.place.Place.{Place}
 use Rattle.js_binding.specs.Scopes.{Scope}
@@ -29,14 +30,11 @@ use Rattle.run_trees.specs.declared.abrupt.Abrupt.TheVariants as ending
 use Rattle.run_trees.specs.Runs.{Run, After, pure, abrupt, halt, reading, changing, ◌>>=◌, ◌>>◌}
 use Rattle.utf16_text.specs.declared.limits.TheConstants.{LONGEST_TEXT}
 
--- What a run has of its own: its heap, the fuel that is left, and the base of the suffixes that were evaluated last
--- (8.7; behind a call the global object), which an assignment writes to and a call has as its `this`, each right behind
--- the part that sets it. And what its script is told of its surroundings, which no rule changes: what clocks show, and
--- the settings of the functions of the proxy format.
+-- What a run has of its own: its heap and the fuel that is left. And what its script is told of its surroundings, which
+-- no rule changes: what clocks show, and the settings of the functions of the proxy format.
 pub record RunState : Type 0 where
   pub heap : HeapView
   pub fuel : ℕ
-  pub base : Value
   pub now : Moments
   pub settings : PacSettings
   -- the names of each scope of the heap, by the scope's number; empty in a run by slots
@@ -131,14 +129,6 @@ built_in_object which = record { 0 = built_in_number which }
 
 abbrev pub global_object : Value
 global_object = Object (built_in_object built_in.Global)
-
--- ---- the base of a reference
-
-abbrev pub set_base : Value → Does (Unit {0})
-set_base v = changing (λ s. record s { base = v })
-
-abbrev pub the_base : Does Value
-the_base = reading (λ s. pure s.base)
 
 -- ---- throws
 

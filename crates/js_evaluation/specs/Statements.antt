@@ -21,8 +21,8 @@ use Rattle.js_evaluation.specs.declared.thrown.Thrown.{Thrown}
 use Rattle.js_evaluation.specs.State.{RunState, RunEnd, Stop, Does, fault, charge, write_slot, spend, throw}
 use Rattle.js_evaluation.specs.Objects.{Context}
 use Rattle.js_evaluation.specs.Scoping.{Scoping}
-use Rattle.js_evaluation.specs.Parts.{Within, visit, execute}
-use Rattle.js_evaluation.specs.Expressions.{reference, write}
+use Rattle.js_evaluation.specs.Parts.{Within, visit, refer, execute}
+use Rattle.js_evaluation.specs.Expressions.{write}
 
 abbrev pub nothing : Does Value
 nothing = pure value.Undefined
@@ -123,7 +123,7 @@ module _ (scoping : Scoping) (functions : List FunctionTree) (go : Within) where
 
   -- writes a name of the list to the target
   abbrev pub named_by : Context → Place → TargetTree → List ℕ → Does (Unit {0})
-  named_by cx p (target_value e) name = reference scoping functions go cx e >>= (λ r. write scoping cx r (value.Text name) p)
+  named_by cx p (target_value e) name = refer go cx e >>= (λ r. write scoping cx r (value.Text name) p)
   named_by cx p (target_declared x o) name = scoping.write_name cx x (value.Text name) p
 
   abbrev pub names_from : Context → Place → TargetTree → StatementTree → Value → List (List ℕ) → Does Value

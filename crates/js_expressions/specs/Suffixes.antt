@@ -2,21 +2,18 @@
 use Rattle.std.specs.Prelude.{ℕ, List, [], ◌∷◌, Bool, true, false}
 use Rattle.js_tree.specs.declared.place.Place.{Place}
 use Rattle.js_tree.specs.declared.expression.Suffix.{Suffix}
-use Rattle.js_tree.specs.Tree.{ExpressionTree, FunctionTree, Suffixed, SuffixTree}
+use Rattle.js_tree.specs.Tree.{ExpressionTree, FunctionTree, Suffixes}
 use Rattle.heap_values.specs.declared.value.Value.{Value}
 use Rattle.run_trees.specs.Runs.{◌>>◌}
-use Rattle.js_evaluation.specs.State.{Does, global_object}
+use Rattle.js_evaluation.specs.State.{Does}
 use Rattle.js_evaluation.specs.Objects.{Context, get, test_base}
 use Rattle.js_frames.specs.declared.expression_frame.Aim.{Aim}
 use Rattle.js_frames.specs.declared.expression_frame.Aim.TheVariants as aim
+use Rattle.js_frames.specs.Rests.{DoesEither, ◌>=>◌}
+use Rattle.js_frames.specs.RestOf.{suffixes_by}
 use Rattle.js_evaluation.specs.Expressions as rule
 use Rattle.js_evaluation.specs.Parts.{Within}
 use Rattle.js_evaluation.specs.Scoping.{by_slots}
-
--- the `this` of a call of an expression, with the base that its evaluation left
-abbrev pub this_by : ExpressionTree → Value → Value
-this_by (Suffixed p e ss) base = base
-this_by e base = global_object
 
 -- whether the suffix before these is the last one of a target
 abbrev pub is_last : Aim → List Suffix → Bool
@@ -28,5 +25,7 @@ abbrev pub member : Value → List ℕ → Place → Does Value
 member base name place = test_base base place >> get base name place
 
 module _ (functions : List FunctionTree) (go : Within) (cx : Context) where
-  abbrev pub last_at : Value → SuffixTree → Does Value
-  last_at base s = rule.last_at by_slots functions go cx base s
+  -- what suffixes are applied to, and then the suffixes
+  abbrev pub suffixed_by : Aim → ExpressionTree → Suffixes → DoesEither
+  suffixed_by purpose first ss =
+      rule.with_this by_slots functions go cx first >=> (λ x. suffixes_by functions go cx purpose x.0 x.1 ss)

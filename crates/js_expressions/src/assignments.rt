@@ -4,15 +4,16 @@ ghost use Rattle.js_evaluation.specs.Conversions.{assigned_by};
 ghost use Rattle.js_frames.specs.Parts.{reference_of};
 ghost use Rattle.js_evaluation.specs.Expressions as rule;
 ghost use Rattle.js_evaluation.specs.Scoping.{by_slots};
-ghost use Rattle.js_frames.specs.RestOf.{after_expression};
+ghost use Rattle.js_frames.specs.RestOf.{after_expression, after_target};
 ghost use Rattle.js_frames.specs.declared.expression_frame.ExpressionFrame.TheVariants as of_expression;
-ghost use Rattle.js_machine.specs.Moves.{Moves, at};
+ghost use Rattle.js_frames.specs.declared.target_frame.TargetFrame.TheVariants as of_target;
+ghost use Rattle.js_machine.specs.Moves.{Leads, Moves, at};
 ghost use Rattle.js_expressions.specs.Assignments as spec;
 
 use crate::operators::binary;
 use heap_values::Value;
-use js_frames::{ExpressionFrame, Frame, Operated, Reference};
-use js_machine::{Machine, Now, Step, read_reference, referred, write_reference};
+use js_frames::{ExpressionFrame, Frame, Operated, Reference, TargetFrame};
+use js_machine::{Machine, Now, Step, read_reference, write_reference};
 use js_tree::{AssignOp, BinaryOp, Expression, Place};
 
 /// The operator of an assignment that reads its target first.
@@ -46,31 +47,24 @@ pub fn assigned<'p>(
     ensures { Moves (at machine.old (rule.assigned by_slots) place target.entry.now op value.entry.now) machine.old result machine.new }
 {
     match machine.leaf_target(target)? {
-        Some(key) => target_done(machine, op, target, value, place, &key),
+        Some(reference) => target_done(machine, op, value, place, reference),
         None => {
-            let frame = ExpressionFrame::AssignTarget {
-                op,
-                target,
-                value,
-                place,
-            };
-            machine.refer(target, Frame::Expression(frame))
+            let frame = TargetFrame::Assign { op, value, place };
+            machine.refer(target, Frame::Target(frame))
         }
     }
 }
 
-/// The target is there; an operator reads it before the value is evaluated.
+/// The target refers to this; an operator reads it before the value is evaluated.
 pub fn target_done<'p>(
     machine: &mut Machine<'p>,
     op: AssignOp,
-    target: &'p Expression,
     value: &'p Expression,
     place: Place,
-    key: &Value,
+    reference: Reference<'p>,
 ) -> Step<'p>
-    ensures { Moves (at machine.old after_expression (of_expression.AssignTarget op target.entry value.entry place) key.now) machine.old result machine.new }
+    ensures { Leads (at machine.old after_target (of_target.Assign op value.entry place) (reference_of reference.entry)) machine.old result machine.new }
 {
-    let reference = referred(machine.alloc, target, key, &machine.state.base)?;
     match operator_of(op) {
         None => target_set(machine, reference, value, place),
         Some(op) => target_read(machine, op, reference, value, place),

@@ -1,16 +1,17 @@
 // What comes back to an open expression.
-ghost use Rattle.js_frames.specs.RestOf.{after_expression, after_suffix};
-ghost use Rattle.js_machine.specs.Moves.{Moves, at};
+ghost use Rattle.js_frames.specs.Parts.{reference_of};
+ghost use Rattle.js_frames.specs.RestOf.{after_expression, after_suffix, after_target};
+ghost use Rattle.js_machine.specs.Moves.{Leads, Moves, at};
 
 use crate::assignments::{assigned_operand, target_done, value_done};
 use crate::primitives::primitive;
 use crate::rows::{operand_done, operands_from};
-use crate::suffixes::{called, first_done, index_done, key_done};
-use crate::unary::{name_deleted, name_type, target_deleted, type_done};
+use crate::suffixes::{applied, first_referred, index_done, key_done};
+use crate::unary::{target_deleted, target_type, type_done};
 use crate::updates::update_done;
 use heap_values::Value;
 use js_convert::to_boolean;
-use js_frames::{ExpressionFrame, Methods, SuffixFrame, Wanted};
+use js_frames::{ExpressionFrame, Methods, Reference, SuffixFrame, TargetFrame, Wanted};
 use js_machine::{Machine, Now, Step};
 use js_primary::{
     argument_done, called_new, chosen, comma_from, item_done, new_argument_done, property_done,
@@ -44,17 +45,8 @@ pub fn expression_back<'p>(
             left,
             place,
         } => new_argument_done(machine, callee, done, left, place, value),
-        ExpressionFrame::UpdateTarget {
-            form,
-            op,
-            target,
-            place,
-        } => update_done(machine, form, op, target, place, &value),
-        ExpressionFrame::DeleteName { name, place } => name_deleted(machine, name, place),
-        ExpressionFrame::DeleteTarget { place } => target_deleted(machine, &value, place),
         ExpressionFrame::DeleteValue => Ok(Now::Back(Ok(Value::Bool(true)))),
         ExpressionFrame::Void => Ok(Now::Back(Ok(Value::Undefined))),
-        ExpressionFrame::TypeOfName { name, place } => name_type(machine, name, place),
         ExpressionFrame::TypeOf => type_done(machine, &value),
         ExpressionFrame::Plus { place } => {
             primitive(
@@ -94,12 +86,6 @@ pub fn expression_back<'p>(
         ExpressionFrame::Conditional { held, otherwise } => {
             chosen(machine, &value, held, otherwise)
         }
-        ExpressionFrame::AssignTarget {
-            op,
-            target,
-            value: e,
-            place,
-        } => target_done(machine, op, target, e, place, &value),
         ExpressionFrame::AssignValue { reference, place } => {
             value_done(machine, &reference, place, value)
         }
@@ -115,14 +101,10 @@ pub fn expression_back<'p>(
 
 /// A part within an expression with suffixes has a value.
 pub fn suffix_back<'p>(machine: &mut Machine<'p>, part: SuffixFrame<'p>, value: Value) -> Step<'p>
-    ensures { Moves (at machine.old after_suffix part.entry value) machine.old result machine.new }
+    ensures { Leads (at machine.old after_suffix part.entry value) machine.old result machine.new }
 {
     match part {
-        SuffixFrame::First {
-            aim,
-            first,
-            suffixes,
-        } => first_done(machine, aim, first, suffixes, value),
+        SuffixFrame::First { aim, suffixes } => applied(machine, aim, value, suffixes),
         SuffixFrame::Index {
             aim,
             base,
@@ -133,6 +115,25 @@ pub fn suffix_back<'p>(machine: &mut Machine<'p>, part: SuffixFrame<'p>, value: 
         SuffixFrame::Argument { call, done, left } => {
             argument_done(machine, call, done, left, value)
         }
-        SuffixFrame::Called { aim, rest } => called(machine, aim, value, rest),
+        SuffixFrame::Called { aim, rest } => applied(machine, aim, value, rest),
+    }
+}
+
+/// An expression within another refers to this.
+pub fn target_back<'p>(
+    machine: &mut Machine<'p>,
+    part: TargetFrame<'p>,
+    reference: Reference<'p>,
+) -> Step<'p>
+    ensures { Leads (at machine.old after_target part.entry (reference_of reference.entry)) machine.old result machine.new }
+{
+    match part {
+        TargetFrame::First { aim, suffixes } => first_referred(machine, aim, reference, suffixes),
+        TargetFrame::Update { form, op, place } => update_done(machine, form, op, place, reference),
+        TargetFrame::Delete { place } => target_deleted(machine, &reference, place),
+        TargetFrame::TypeOf => target_type(machine, &reference),
+        TargetFrame::Assign { op, value, place } => {
+            target_done(machine, op, value, place, reference)
+        }
     }
 }

@@ -4,7 +4,7 @@ ghost use Rattle.js_evaluation.specs.BySlots.{read_name};
 ghost use Rattle.js_frames.specs.Parts.{context_of};
 ghost use Rattle.js_evaluation.specs.Expressions as rule;
 ghost use Rattle.js_evaluation.specs.Scoping.{by_slots};
-ghost use Rattle.js_machine.specs.Moves.{Moves, at};
+ghost use Rattle.js_machine.specs.Moves.{Moves, Refers, at};
 
 use crate::assignments::assigned;
 use crate::rows::row;
@@ -13,7 +13,7 @@ use crate::unary::unary;
 use crate::updates::updated;
 use heap_steps::read_name;
 use heap_values::Value;
-use js_frames::Aim;
+use js_frames::{Aim, Reference};
 use js_machine::{Machine, Now, Step};
 use js_primary::{
     array_literal, comma_from, conditional, function_value, new_value, object_literal, text_literal,
@@ -73,14 +73,16 @@ fn named<'p>(machine: &mut Machine<'p>, name: &'p BoundName, place: Place) -> St
     Ok(Now::Back(Ok(value)))
 }
 
-/// What an expression does as the target of a write, behind its charge: it is evaluated up to its reference.
+/// What an expression refers to, behind its charge (ECMA-262 5.1, section 8.7).
 pub fn target_node<'p>(machine: &mut Machine<'p>, e: &'p Expression) -> Step<'p>
-    ensures { Moves (at machine.old (rule.target_node by_slots) e.entry.now) machine.old result machine.new }
+    ensures { Refers (at machine.old (rule.target_node by_slots) e.entry.now) machine.old result machine.new }
 {
+    let place = e.place;
     match &e.node {
+        ExpressionNode::Name(name) => Ok(Now::Refers(Reference::Name { place, name })),
         ExpressionNode::Suffixed(first, all) => {
             suffixed(machine, Aim::Target, first, all.as_slice())
         }
-        _ => Ok(Now::Back(Ok(Value::Undefined))),
+        _ => Ok(Now::Refers(Reference::none())),
     }
 }

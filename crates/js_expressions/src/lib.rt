@@ -14,6 +14,6 @@ mod suffixes;
 mod unary;
 mod updates;
 
-pub use back::{expression_back, suffix_back};
+pub use back::{expression_back, suffix_back, target_back};
 pub use expression::{expression_node, target_node};
-pub use primitives::{method_done, primitive};
+pub use primitives::method_done;

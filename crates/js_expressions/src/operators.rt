@@ -7,7 +7,7 @@ ghost use Rattle.js_evaluation.specs.Conversions.{Call};
 ghost use Rattle.js_frames.specs.RestOf as rest;
 ghost use Rattle.js_frames.specs.RestOf.{after_operator, with_primitive};
 ghost use Rattle.js_frames.specs.declared.wanted.Wanted.TheVariants as wanted;
-ghost use Rattle.js_machine.specs.Moves.{Moves, at};
+ghost use Rattle.js_machine.specs.Moves.{Leads, Moves, at};
 ghost use Rattle.js_expressions.specs.Operators as spec;
 
 use crate::rows::operands_from;
@@ -250,7 +250,7 @@ pub fn with_in<'p>(
     place: Place,
     next: Operated<'p>,
 ) -> Step<'p>
-    ensures { Moves (at machine.old with_primitive (wanted.In object place next.entry) name.now) machine.old result machine.new }
+    ensures { Leads (at machine.old with_primitive (wanted.In object place next.entry) name.now) machine.old result machine.new }
 {
     let name = to_text(machine.alloc, name)?;
     let value = has_property(machine.alloc, &machine.state.heap, object, &name, place)?;

@@ -5,7 +5,7 @@ ghost use Rattle.js_frames.specs.RestOf.{with_primitive};
 ghost use Rattle.js_frames.specs.declared.frame.Frame.TheVariants as frame;
 ghost use Rattle.js_frames.specs.declared.wanted.Wanted.TheVariants as wanted;
 ghost use Rattle.js_machine.specs.declared.machine.Machine.{Machine};
-ghost use Rattle.js_machine.specs.Moves.{Moves, at, resumed};
+ghost use Rattle.js_machine.specs.Moves.{Leads, at, resumed};
 ghost use Rattle.js_expressions.specs.Primitives as spec;
 
 use crate::operators::{operated, right_operand, with_in};
@@ -14,7 +14,7 @@ use crate::updates::update_by;
 use heap_steps::{bits_or_fault, get_by, number_or_fault};
 use heap_values::{ObjectId, Value};
 use js_convert::to_number;
-use js_frames::{Aim, Frame, Methods, Wanted};
+use js_frames::{Aim, Methods, Reference, Wanted};
 use js_machine::{Machine, Now, Step};
 use js_native_calls::{convert, element_converted, error_message, error_named, value_converted};
 use js_tree::{Place, Suffix};
@@ -28,7 +28,7 @@ pub fn primitive<'p>(
     place: Place,
     wanted: Wanted<'p>,
 ) -> Step<'p>
-    ensures { Moves (at machine.old spec.primitive (names_of methods) value place wanted.entry) machine.old result machine.new }
+    ensures { Leads (at machine.old spec.primitive (names_of methods) value place wanted.entry) machine.old result machine.new }
 {
     match value {
         Value::Object(object) => convert(machine, methods, object, place, wanted),
@@ -45,7 +45,7 @@ pub fn method_done<'p>(
     wanted: Wanted<'p>,
     value: Value,
 ) -> Step<'p>
-    ensures { Moves (at machine.old resumed (frame.Primitive object methods place wanted.entry) (Ok value)) machine.old result machine.new }
+    ensures { Leads (at machine.old resumed (frame.Primitive object methods place wanted.entry) (Ok value)) machine.old result machine.new }
 {
     match value {
         Value::Object(_) => convert(machine, methods, object, place, wanted),
@@ -55,7 +55,7 @@ pub fn method_done<'p>(
 
 /// What is wanted of a primitive value is done with it.
 fn primitive_done<'p>(machine: &mut Machine<'p>, wanted: Wanted<'p>, value: Value) -> Step<'p>
-    ensures { Moves (at machine.old with_primitive wanted.entry value) machine.old result machine.new }
+    ensures { Leads (at machine.old with_primitive wanted.entry value) machine.old result machine.new }
 {
     match wanted {
         Wanted::Plus { place } => plus(&value, place),
@@ -73,7 +73,10 @@ fn primitive_done<'p>(machine: &mut Machine<'p>, wanted: Wanted<'p>, value: Valu
             place,
             rest,
         } => index_by(machine, aim, base, place, rest, &value),
-        Wanted::Key { base } => Ok(key_by(machine, base, value)),
+        Wanted::Key { base, place } => {
+            let key = value;
+            Ok(Now::Refers(Reference::Property { place, base, key }))
+        }
         Wanted::In {
             object,
             place,
@@ -113,7 +116,7 @@ fn primitive_done<'p>(machine: &mut Machine<'p>, wanted: Wanted<'p>, value: Valu
 
 /// `+` before a value (ECMA-262 5.1, section 11.4.6).
 fn plus<'p>(value: &Value, place: Place) -> Step<'p>
-    ensures { (m : Machine) → Moves (at m with_primitive (wanted.Plus place) value.now) m result m }
+    ensures { (m : Machine) → Leads (at m with_primitive (wanted.Plus place) value.now) m result m }
 {
     let number = number_or_fault(to_number(value), place)?;
     Ok(Now::Back(Ok(Value::Number(number))))
@@ -121,7 +124,7 @@ fn plus<'p>(value: &Value, place: Place) -> Step<'p>
 
 /// `-` before a value (ECMA-262 5.1, section 11.4.7).
 fn minus<'p>(value: &Value, place: Place) -> Step<'p>
-    ensures { (m : Machine) → Moves (at m with_primitive (wanted.Minus place) value.now) m result m }
+    ensures { (m : Machine) → Leads (at m with_primitive (wanted.Minus place) value.now) m result m }
 {
     let number = number_or_fault(to_number(value), place)?;
     Ok(Now::Back(Ok(Value::Number(negative(number)))))
@@ -138,7 +141,7 @@ fn negative(number: Whole) -> Whole
 
 /// `~` before a value (ECMA-262 5.1, section 11.4.8).
 fn bit_not<'p>(value: &Value, place: Place) -> Step<'p>
-    ensures { (m : Machine) → Moves (at m with_primitive (wanted.BitNot place) value.now) m result m }
+    ensures { (m : Machine) → Leads (at m with_primitive (wanted.BitNot place) value.now) m result m }
 {
     let bits = bits_or_fault(to_number(value), place)?;
     Ok(Now::Back(Ok(Value::Number(Whole::from(inverted(bits))))))
@@ -159,17 +162,9 @@ fn index_by<'p>(
     rest: &'p [Suffix],
     key: &Value,
 ) -> Step<'p>
-    ensures { Moves (at machine.old with_primitive (wanted.Index aim base place rest.entry) key.now) machine.old result machine.new }
+    ensures { Leads (at machine.old with_primitive (wanted.Index aim base place rest.entry) key.now) machine.old result machine.new }
 {
     let heap = &mut machine.state.heap;
     let value = get_by(machine.alloc, heap, &base, key, place)?;
     suffixes_from(machine, aim, base, value, rest)
-}
-
-/// The key of a target: its base stays.
-fn key_by<'p>(machine: &mut Machine<'p>, base: Value, key: Value) -> Now<'p>
-    ensures { Moves (at machine.old with_primitive (wanted.Key base) key) machine.old (Ok result) machine.new }
-{
-    machine.state.base = base;
-    Now::Back(Ok(key))
 }

@@ -5,7 +5,7 @@ ghost use Rattle.js_evaluation.specs.Expressions as rule;
 ghost use Rattle.js_evaluation.specs.Scoping.{by_slots};
 ghost use Rattle.js_frames.specs.RestOf.{after_expression};
 ghost use Rattle.js_frames.specs.declared.expression_frame.ExpressionFrame.TheVariants as of_expression;
-ghost use Rattle.js_machine.specs.Moves.{Moves, at, evaluated};
+ghost use Rattle.js_machine.specs.Moves.{Moves, at};
 ghost use Rattle.js_expressions.specs.Rows as spec;
 
 use crate::operators::{binary, converted_object, right_object};

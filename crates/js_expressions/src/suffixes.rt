@@ -1,48 +1,92 @@
-// Members, indexes and calls, and targets of writes (ECMA-262 5.1, sections 8.7 and 11.2).
-ghost use Rattle.std.specs.Prelude.{◌≡◌, IfOk};
+// Members, indexes and calls, and what they refer to (ECMA-262 5.1, sections 8.7 and 11.2).
+ghost use Rattle.std.specs.Prelude.{◌≡◌, Ok};
 ghost use Rattle.js_tree.specs.Tree.{no_suffix};
 ghost use Rattle.js_tree.specs.View.{suffix_of, suffixes_of};
+ghost use Rattle.heap_values.specs.declared.value.Value.{Value};
 ghost use Rattle.heap_values.specs.declared.value.Value.TheVariants as value;
 ghost use Rattle.js_convert.specs.Texts.{text_of};
+ghost use Rattle.js_evaluation.specs.Expressions as rule;
+ghost use Rattle.js_evaluation.specs.Scoping.{by_slots};
 ghost use Rattle.js_evaluation.specs.State.{global_object};
-ghost use Rattle.js_frames.specs.RestOf.{after_suffix, suffixes_by};
+ghost use Rattle.js_frames.specs.Parts.{reference_of};
+ghost use Rattle.js_frames.specs.RestOf.{after_suffix, after_target, suffixes_by};
 ghost use Rattle.js_frames.specs.declared.frame.Frame.TheVariants as frame;
 ghost use Rattle.js_frames.specs.declared.expression_frame.SuffixFrame.TheVariants as of_suffix;
+ghost use Rattle.js_frames.specs.declared.target_frame.TargetFrame.TheVariants as of_target;
 ghost use Rattle.heap_steps.specs.Works.{Works};
-ghost use Rattle.js_machine.specs.Moves.{Moves, at, evaluated};
+ghost use Rattle.js_machine.specs.declared.machine.Machine.{Machine};
+ghost use Rattle.js_machine.specs.Moves.{Leads, Refers, at, evaluated};
 ghost use Rattle.js_expressions.specs.Suffixes as spec;
 
 use crate::primitives::primitive;
 use heap_steps::{Halt, get, get_by, test_base};
 use heap_values::{BuiltIn, ObjectId, Value};
-use js_frames::{Aim, Frame, Methods, OpenCall, SuffixFrame, Wanted};
-use js_machine::{Machine, Now, Step, charge};
+use js_frames::{Aim, Frame, Methods, OpenCall, Reference, SuffixFrame, TargetFrame, Wanted};
+use js_grammar::is_target;
+use js_machine::{Machine, Now, Step, charge, read_reference};
 use js_native_calls::convert;
 use js_primary::first_arguments;
 use js_tree::{Expression, ExpressionNode, Place, Suffix, SuffixNode};
 use object_heap::Heap;
 use std::alloc::Global;
-use utf16_text::{Memory, Text};
+use utf16_text::Text;
 
-/// An expression with suffixes: first what they are applied to.
+/// An expression with suffixes: first what they are applied to. A property is referred to, since its base is the `this`
+/// of a call.
 pub fn suffixed<'p>(
     machine: &mut Machine<'p>,
     aim: Aim,
     first: &'p Expression,
     suffixes: &'p [Suffix],
 ) -> Step<'p>
-    ensures { Moves (at machine.old evaluated first.entry.now (frame.Suffix (of_suffix.First aim first.entry suffixes.entry))) machine.old result machine.new }
+    ensures { Leads (at machine.old spec.suffixed_by aim first.entry.now (suffixes_of suffixes.entry.now)) machine.old result machine.new }
 {
+    if refers_to_property(first) {
+        let frame = TargetFrame::First { aim, suffixes };
+        return machine.refer(first, Frame::Target(frame));
+    }
     match machine.leaf(first)? {
-        Some(value) => first_done(machine, aim, first, suffixes, value),
+        Some(value) => applied(machine, aim, value, suffixes),
         None => {
-            let frame = SuffixFrame::First {
-                aim,
-                first,
-                suffixes,
-            };
+            let frame = SuffixFrame::First { aim, suffixes };
             machine.evaluate(first, Frame::Suffix(frame))
         }
+    }
+}
+
+/// Whether an expression refers to a property.
+fn refers_to_property(e: &Expression) -> bool
+    ensures { result ≡ rule.refers_to_property e.now }
+{
+    match &e.node {
+        ExpressionNode::Suffixed(_, _) => is_target(e),
+        _ => false,
+    }
+}
+
+/// What suffixes are applied to refers to this property. It is read.
+pub fn first_referred<'p>(
+    machine: &mut Machine<'p>,
+    aim: Aim,
+    reference: Reference<'p>,
+    suffixes: &'p [Suffix],
+) -> Step<'p>
+    ensures { Leads (at machine.old after_target (of_target.First aim suffixes.entry) (reference_of reference.entry)) machine.old result machine.new }
+{
+    let scope = machine.context.scope;
+    let heap = &mut machine.state.heap;
+    let value = read_reference(machine.alloc, heap, scope, &reference)?;
+    let this = this_of(heap, reference);
+    suffixes_from(machine, aim, this, value, suffixes)
+}
+
+/// The `this` of a call of what is referred to (ECMA-262 5.1, section 11.2.3).
+fn this_of(heap: &Heap, reference: Reference) -> Value
+    ensures { result ≡ rule.this_of (reference_of reference.entry) }
+{
+    match reference {
+        Reference::Name { .. } => global_value(heap),
+        Reference::Property { base, .. } => base,
     }
 }
 
@@ -53,37 +97,20 @@ fn global_value(heap: &Heap) -> Value
     Value::Object(heap.built_in(BuiltIn::Global))
 }
 
-/// The `this` of a call of an expression as it stands: the base of the reference that it is, where it is one.
-fn this_behind(
-    alloc: Global,
-    heap: &Heap,
-    base: &Value,
-    first: &Expression,
-) -> Result<Value, Memory>
-    ensures { IfOk result (λ this. this ≡ spec.this_by first.now base.now) }
-{
-    match &first.node {
-        ExpressionNode::Suffixed(_, _) => base.copy(alloc),
-        _ => Ok(global_value(heap)),
-    }
-}
-
-/// What suffixes are applied to has this value.
-pub fn first_done<'p>(
+/// Suffixes behind a value that is no reference, as that of a call. A call of it has the global object as its `this`.
+pub fn applied<'p>(
     machine: &mut Machine<'p>,
     aim: Aim,
-    first: &'p Expression,
-    suffixes: &'p [Suffix],
     value: Value,
+    suffixes: &'p [Suffix],
 ) -> Step<'p>
-    ensures { Moves (at machine.old after_suffix (of_suffix.First aim first.entry suffixes.entry) value) machine.old result machine.new }
+    ensures { Leads (at machine.old suffixes_by aim global_object value (suffixes_of suffixes.entry.now)) machine.old result machine.new }
 {
-    let state = &machine.state;
-    let this = this_behind(machine.alloc, &state.heap, &state.base, first)?;
+    let this = global_value(&machine.state.heap);
     suffixes_from(machine, aim, this, value, suffixes)
 }
 
-/// Suffixes, each charged where it is applied. The base of the last one stays; the last one of a target isn't read.
+/// Suffixes, each charged where it is applied. What the last one of a target refers to isn't read.
 pub fn suffixes_from<'p>(
     machine: &mut Machine<'p>,
     aim: Aim,
@@ -91,7 +118,7 @@ pub fn suffixes_from<'p>(
     value: Value,
     suffixes: &'p [Suffix],
 ) -> Step<'p>
-    ensures { Moves (at machine.old suffixes_by aim this value (suffixes_of suffixes.entry.now)) machine.old result machine.new }
+    ensures { Leads (at machine.old suffixes_by aim this value (suffixes_of suffixes.entry.now)) machine.old result machine.new }
 {
     let mut this = this;
     let mut value = value;
@@ -136,7 +163,7 @@ pub fn suffixes_from<'p>(
         value = found;
         left = rest;
     }
-    behind_suffixes(machine, aim, this, value)
+    Ok(behind_suffixes(aim, value))
 }
 
 /// Whether the suffix before these is the last one of a target.
@@ -149,16 +176,13 @@ fn is_last(aim: Aim, rest: &[Suffix]) -> bool
     }
 }
 
-/// No suffix is left: the base of the last one stays.
-fn behind_suffixes<'p>(machine: &mut Machine<'p>, aim: Aim, this: Value, value: Value) -> Step<'p>
-    ensures { Moves (at machine.old suffixes_by aim this value no_suffix) machine.old result machine.new }
+/// No suffix is left.
+fn behind_suffixes<'p>(aim: Aim, value: Value) -> Now<'p>
+    ensures { (m : Machine) (this : Value) → Leads (at m suffixes_by aim this value no_suffix) m (Ok result) m }
 {
     match aim {
-        Aim::Value => {
-            machine.state.base = this;
-            Ok(Now::Back(Ok(value)))
-        }
-        Aim::Target => Ok(Now::Back(Ok(Value::Undefined))),
+        Aim::Value => Now::Back(Ok(value)),
+        Aim::Target => Now::Refers(Reference::none()),
     }
 }
 
@@ -199,7 +223,7 @@ fn index<'p>(
     place: Place,
     rest: &'p [Suffix],
 ) -> Step<'p>
-    ensures { Moves (at machine.old evaluated index.entry.now (frame.Suffix (of_suffix.Index aim base place rest.entry))) machine.old result machine.new }
+    ensures { Leads (at machine.old evaluated index.entry.now (frame.Suffix (of_suffix.Index aim base place rest.entry))) machine.old result machine.new }
 {
     let frame = SuffixFrame::Index {
         aim,
@@ -210,24 +234,24 @@ fn index<'p>(
     machine.evaluate(index, Frame::Suffix(frame))
 }
 
-/// The last suffix of a target: its base stays, and its key is given.
+/// What the last suffix of a target refers to.
 fn last_of_target<'p>(machine: &mut Machine<'p>, base: Value, suffix: &'p Suffix) -> Step<'p>
-    ensures { Moves (at machine.old spec.last_at base (suffix_of suffix.entry.now.place suffix.entry.now.node)) machine.old result machine.new }
+    ensures { Refers (at machine.old (rule.referred_at by_slots) base (suffix_of suffix.entry.now.place suffix.entry.now.node)) machine.old result machine.new }
 {
     let place = suffix.place;
     match &suffix.node {
         SuffixNode::Member(name) => {
             let heap = &mut machine.state.heap;
             test_base(machine.alloc, heap, &base, place)?;
-            let key = name.copy(machine.alloc)?;
-            machine.state.base = base;
-            Ok(Now::Back(Ok(Value::Text(key))))
+            let name = name.copy(machine.alloc)?;
+            let key = Value::Text(name);
+            Ok(Now::Refers(Reference::Property { place, base, key }))
         }
         SuffixNode::Index(e) => {
             let frame = SuffixFrame::Key { base, place };
             machine.evaluate(e, Frame::Suffix(frame))
         }
-        SuffixNode::Call(_) => Ok(Now::Back(Ok(Value::Undefined))),
+        SuffixNode::Call(_) => Ok(Now::Refers(Reference::none())),
     }
 }
 
@@ -240,7 +264,7 @@ pub fn index_done<'p>(
     rest: &'p [Suffix],
     value: Value,
 ) -> Step<'p>
-    ensures { Moves (at machine.old after_suffix (of_suffix.Index aim base place rest.entry) value) machine.old result machine.new }
+    ensures { Leads (at machine.old after_suffix (of_suffix.Index aim base place rest.entry) value) machine.old result machine.new }
 {
     match value {
         Value::Object(key) => object_index(machine, aim, base, key, place, rest),
@@ -261,7 +285,7 @@ fn object_index<'p>(
     place: Place,
     rest: &'p [Suffix],
 ) -> Step<'p>
-    ensures { Moves (at machine.old after_suffix (of_suffix.Index aim base place rest.entry) (value.Object key)) machine.old result machine.new }
+    ensures { Leads (at machine.old after_suffix (of_suffix.Index aim base place rest.entry) (value.Object key)) machine.old result machine.new }
 {
     let heap = &mut machine.state.heap;
     test_base(machine.alloc, heap, &base, place)?;
@@ -276,23 +300,10 @@ fn object_index<'p>(
 
 /// The index of the last suffix of a target has this value.
 pub fn key_done<'p>(machine: &mut Machine<'p>, base: Value, place: Place, value: Value) -> Step<'p>
-    ensures { Moves (at machine.old after_suffix (of_suffix.Key base place) value) machine.old result machine.new }
+    ensures { Leads (at machine.old after_suffix (of_suffix.Key base place) value) machine.old result machine.new }
 {
     let heap = &mut machine.state.heap;
     test_base(machine.alloc, heap, &base, place)?;
-    primitive(
-        machine,
-        Methods::ForText,
-        value,
-        place,
-        Wanted::Key { base },
-    )
-}
-
-/// A call has this value; what is behind it has the global object as its `this`.
-pub fn called<'p>(machine: &mut Machine<'p>, aim: Aim, value: Value, rest: &'p [Suffix]) -> Step<'p>
-    ensures { Moves (at machine.old after_suffix (of_suffix.Called aim rest.entry) value) machine.old result machine.new }
-{
-    let this = global_value(&machine.state.heap);
-    suffixes_from(machine, aim, this, value, rest)
+    let wanted = Wanted::Key { base, place };
+    primitive(machine, Methods::ForText, value, place, wanted)
 }

@@ -3,17 +3,18 @@ ghost use Rattle.std.specs.Prelude.{◌≡◌};
 ghost use Rattle.heap_values.specs.declared.value.Value.TheVariants as value;
 ghost use Rattle.js_evaluation.specs.Expressions as rule;
 ghost use Rattle.js_evaluation.specs.Scoping.{by_slots};
-ghost use Rattle.js_frames.specs.RestOf.{after_expression, with_primitive};
-ghost use Rattle.js_frames.specs.declared.expression_frame.ExpressionFrame.TheVariants as of_expression;
+ghost use Rattle.js_frames.specs.Parts.{reference_of};
+ghost use Rattle.js_frames.specs.RestOf.{after_target, with_primitive};
+ghost use Rattle.js_frames.specs.declared.target_frame.TargetFrame.TheVariants as of_target;
 ghost use Rattle.js_frames.specs.declared.wanted.Wanted.TheVariants as wanted;
-ghost use Rattle.js_machine.specs.Moves.{Moves, at};
+ghost use Rattle.js_machine.specs.Moves.{Leads, Moves, at};
 
 use crate::primitives::primitive;
 use heap_steps::{number_or_fault, stepped};
 use heap_values::Value;
 use js_convert::to_number;
-use js_frames::{ExpressionFrame, Frame, Methods, Reference, Wanted};
-use js_machine::{Machine, Now, Step, read_reference, referred, write_reference};
+use js_frames::{Frame, Methods, Reference, TargetFrame, Wanted};
+use js_machine::{Machine, Now, Step, read_reference, write_reference};
 use js_tree::{Expression, Place, UpdateForm, UpdateOp};
 use whole_number::Whole;
 
@@ -28,31 +29,24 @@ pub fn updated<'p>(
     ensures { Moves (at machine.old (rule.updated by_slots) place form op target.entry.now) machine.old result machine.new }
 {
     match machine.leaf_target(target)? {
-        Some(key) => update_done(machine, form, op, target, place, &key),
+        Some(reference) => update_done(machine, form, op, place, reference),
         None => {
-            let frame = ExpressionFrame::UpdateTarget {
-                form,
-                op,
-                target,
-                place,
-            };
-            machine.refer(target, Frame::Expression(frame))
+            let frame = TargetFrame::Update { form, op, place };
+            machine.refer(target, Frame::Target(frame))
         }
     }
 }
 
-/// The target is there: it is read, and becomes a number.
+/// The target refers to this: it is read, and becomes a number.
 pub fn update_done<'p>(
     machine: &mut Machine<'p>,
     form: UpdateForm,
     op: UpdateOp,
-    target: &'p Expression,
     place: Place,
-    key: &Value,
+    reference: Reference<'p>,
 ) -> Step<'p>
-    ensures { Moves (at machine.old after_expression (of_expression.UpdateTarget form op target.entry place) key.now) machine.old result machine.new }
+    ensures { Leads (at machine.old after_target (of_target.Update form op place) (reference_of reference.entry)) machine.old result machine.new }
 {
-    let reference = referred(machine.alloc, target, key, &machine.state.base)?;
     let scope = machine.context.scope;
     let heap = &mut machine.state.heap;
     let old = read_reference(machine.alloc, heap, scope, &reference)?;
@@ -74,7 +68,7 @@ pub fn update_by<'p>(
     place: Place,
     old: &Value,
 ) -> Step<'p>
-    ensures { Moves (at machine.old with_primitive (wanted.Update form op reference.entry place) old.now) machine.old result machine.new }
+    ensures { Leads (at machine.old with_primitive (wanted.Update form op reference.entry place) old.now) machine.old result machine.new }
 {
     let old = number_or_fault(to_number(old), place)?;
     let new = stepped(op, old, place)?;

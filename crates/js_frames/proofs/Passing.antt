@@ -27,6 +27,7 @@ use Rattle.js_evaluation.specs.Entries as entry
 use Rattle.js_evaluation.specs.Statements as statement
 use Rattle.js_evaluation.specs.Parts.{Within}
 use Rattle.js_evaluation.specs.Scoping.{by_slots}
+use Rattle.js_frames.specs.Rests.{Rest}
 use Rattle.js_frames.specs.RestOf.{in_switch, turned_to, rest_of_statement, rest_of_loop, rest_of_entry, rest_of_frame, within, rest_of, while_turns, do_next, for_next, names_from}
 use Rattle.js_frames.specs.Unwinding.{kind_of, is_throw, is_break, is_return, turns, statement_takes, loop_takes, takes, unwound}
 
@@ -87,24 +88,30 @@ module _ (functions : List FunctionTree) (go : Within) (cx : Context) where
   by_entry (of_entry.Construct made rest) after stop h =
       by_call stop (onward (λ v. pure (entry.object_or (value.Object made) v)) after) h
 
-  pub passes : (f : Frame) (after : AfterValue) (stop : Stop) → takes f (kind_of stop) ≡ false → rest_of_frame functions go cx f after (Err stop) ≡ after (Err stop)
-  passes frame.Hold after stop h = refl
-  passes (frame.Expression f) after stop h = refl
-  passes (frame.Suffix f) after stop h = refl
-  passes (frame.Statement f) after stop h = by_statement f after stop h
-  passes (frame.Loop f) after stop h = by_loop f after stop h
-  passes (frame.Entry f) after stop h = by_entry f after stop h
-  passes (frame.Primitive object ms place w) after stop h = refl
+  pub passes : (f : Frame) (rest : Rest) (stop : Stop) → takes f (kind_of stop) ≡ false
+      → (rest_of_frame functions go cx f rest).given (Err stop) ≡ rest.given (Err stop)
+  passes frame.Hold rest stop h = refl
+  passes (frame.Expression f) rest stop h = refl
+  passes (frame.Suffix f) rest stop h = refl
+  passes (frame.Target f) rest stop h = refl
+  passes (frame.Statement f) rest stop h = by_statement f rest.given stop h
+  passes (frame.Loop f) rest stop h = by_loop f rest.given stop h
+  passes (frame.Entry f) rest stop h = by_entry f rest.given stop h
+  passes (frame.Primitive object ms place w) rest stop h = refl
+
+-- what the open parts make of an abrupt end
+abbrev ended : List FunctionTree → AfterValue → List Open → AfterValue
+ended functions last fs = (rest_of functions last fs).given
 
 kept_by : (functions : List FunctionTree) (last : AfterValue) (stop : Stop) (f : Open) (fs : List Open) (b : Bool) → takes f.frame (kind_of stop) ≡ b
-    → rest_of functions last (unwound (kind_of stop) fs) (Err stop) ≡ rest_of functions last fs (Err stop)
-    → rest_of functions last (if b then f ∷ fs else unwound (kind_of stop) fs) (Err stop) ≡ rest_of functions last (f ∷ fs) (Err stop)
+    → ended functions last (unwound (kind_of stop) fs) (Err stop) ≡ ended functions last fs (Err stop)
+    → ended functions last (if b then f ∷ fs else unwound (kind_of stop) fs) (Err stop) ≡ ended functions last (f ∷ fs) (Err stop)
 kept_by functions last stop f fs true h k = refl
 kept_by functions last stop f fs false h k =
     k ∙ sym (passes functions (within functions fs) (context_of f.context) f.frame (rest_of functions last fs) stop h)
 
 pub unwound-keeps : (functions : List FunctionTree) (last : AfterValue) (stop : Stop) (fs : List Open)
-    → rest_of functions last fs (Err stop) ≡ rest_of functions last (unwound (kind_of stop) fs) (Err stop)
+    → ended functions last fs (Err stop) ≡ ended functions last (unwound (kind_of stop) fs) (Err stop)
 unwound-keeps functions last stop [] = refl
 unwound-keeps functions last stop (f ∷ fs) =
     sym (kept_by functions last stop f fs (takes f.frame (kind_of stop)) refl (sym (unwound-keeps functions last stop fs)))

@@ -1,6 +1,6 @@
 -- What each open part makes of the end that it waits for, by the rules of evaluation (ECMA-262 5.1, sections 11 to 13):
 -- what the rule of its kind does after the part within.
-use Rattle.std.specs.Prelude.{codes, ℕ, suc, ◌+◌, ◌-◌, List, [], ◌∷◌, ◌++◌, length, true, false, not, if◌then◌else◌, pos, neg_ℤ, ◌-ℤ◌}
+use Rattle.std.specs.Prelude.{codes, ℕ, suc, ◌+◌, ◌-◌, List, [], ◌∷◌, ◌++◌, length, true, false, not, if◌then◌else◌, pos, neg_ℤ, ◌-ℤ◌, Ok}
 use Rattle.js_tree.specs.declared.place.Place.{Place}
 use Rattle.js_tree.specs.declared.operators.BinaryOp.{BinaryOp}
 use Rattle.js_tree.specs.Tree.{Suffixes, FunctionTree, expressions_of, items_of, statements_of}
@@ -12,9 +12,9 @@ use Rattle.js_convert.specs.Operators.{operator_value, strictly_equal, is_object
 use Rattle.js_convert.specs.Texts.{text_of}
 use Rattle.run_trees.specs.declared.abrupt.Abrupt.TheVariants as ending
 use Rattle.run_trees.specs.Runs.{ends, pure, abrupt, reading, onward, ◌>>=◌, ◌>>◌, turned, broken_at, returned_to}
-use Rattle.js_evaluation.specs.BySlots.{delete_bound, read_or_undefined, write_name}
-use Rattle.js_evaluation.specs.State.{Does, define, set_base, the_base, global_object, throw, AfterValue}
-use Rattle.js_evaluation.specs.Objects.{Context, get, test_base, delete_property, has_property}
+use Rattle.js_evaluation.specs.BySlots.{write_name}
+use Rattle.js_evaluation.specs.State.{Does, define, global_object, throw, AfterValue}
+use Rattle.js_evaluation.specs.Objects.{Context, get, test_base, has_property}
 use Rattle.js_evaluation.specs.Conversions as convert
 use Rattle.js_evaluation.specs.Handed as handed
 use Rattle.js_evaluation.specs.Natives as native
@@ -35,6 +35,8 @@ use Rattle.js_frames.specs.declared.statement_frame.LoopFrame.TheVariants as of_
 use Rattle.js_frames.specs.declared.statement_frame.WhileLoop.{WhileLoop}
 use Rattle.js_frames.specs.declared.statement_frame.ForLoop.{ForLoop}
 use Rattle.js_frames.specs.declared.statement_frame.ForInLoop.{ForInLoop}
+use Rattle.js_frames.specs.declared.target_frame.TargetFrame.{TargetFrame}
+use Rattle.js_frames.specs.declared.target_frame.TargetFrame.TheVariants as of_target
 use Rattle.js_frames.specs.declared.frame.EntryFrame.{EntryFrame}
 use Rattle.js_frames.specs.declared.frame.EntryFrame.TheVariants as of_entry
 use Rattle.js_frames.specs.declared.frame.Frame.{Frame}
@@ -45,17 +47,18 @@ use Rattle.js_frames.specs.declared.wanted.Operated.TheVariants as operated
 use Rattle.js_frames.specs.declared.wanted.Wanted.{Wanted}
 use Rattle.js_frames.specs.declared.wanted.Wanted.TheVariants as wanted
 use Rattle.js_frames.specs.Parts.{context_of, reference_of, names_of}
+use Rattle.js_frames.specs.Rests.{Rest, waits_for_value, DoesEither, giving, referring, either_after, ◌>=>◌}
 use Rattle.js_evaluation.specs.Entries as entry
-use Rattle.js_evaluation.specs.Parts.{Within, calls, visit, execute}
+use Rattle.js_evaluation.specs.Parts.{Reference, to_property, Within, calls, visit, execute}
 use Rattle.js_evaluation.specs.Scoping.{by_slots}
 use Rattle.js_evaluation.specs.declared.limits.TheConstants.{MOST_OPEN}
 
 -- functions: those of the script; go: evaluation of the parts within; cx: where the code of the open part runs
 module _ (functions : List FunctionTree) (go : Within) (cx : Context) where
   -- suffixes, for the value that the last one gives or for what it refers to
-  abbrev pub suffixes_by : Aim → Value → Value → Suffixes → Does Value
-  suffixes_by aim.Value = expression.suffixes_from by_slots functions go cx
-  suffixes_by aim.Target = expression.target_suffixes by_slots functions go cx
+  abbrev pub suffixes_by : Aim → Value → Value → Suffixes → DoesEither
+  suffixes_by aim.Value this v ss = giving (expression.suffixes_from by_slots functions go cx this v ss)
+  suffixes_by aim.Target this v ss = referring (expression.target_suffixes by_slots functions go cx this v ss)
 
   -- ---- what is done with a primitive value (8.12.8)
 
@@ -67,34 +70,34 @@ module _ (functions : List FunctionTree) (go : Within) (cx : Context) where
   abbrev pub operate : BinaryOp → Value → Value → Place → Operated → Does Value
   operate o a b place next = convert.operated (calls go) (operator_value o a b) place >>= after_operator next
 
-  abbrev pub with_primitive : Wanted → Value → Does Value
+  abbrev pub with_primitive : Wanted → Value → DoesEither
   with_primitive (wanted.Plus place) v =
-      convert.number_or_fault (calls go) (numeric_of v) place >>= (λ n. pure (value.Number n))
+      giving (convert.number_or_fault (calls go) (numeric_of v) place >>= (λ n. pure (value.Number n)))
   with_primitive (wanted.Minus place) v =
-      convert.number_or_fault (calls go) (numeric_of v) place >>= (λ n. pure (value.Number (neg_ℤ n)))
+      giving (convert.number_or_fault (calls go) (numeric_of v) place >>= (λ n. pure (value.Number (neg_ℤ n))))
   with_primitive (wanted.BitNot place) v =
-      convert.bits_or_fault (calls go) (numeric_of v) place >>= (λ n. pure (value.Number (neg_ℤ n -ℤ pos 1)))
-  with_primitive (wanted.Update form op r place) v = do
+      giving (convert.bits_or_fault (calls go) (numeric_of v) place >>= (λ n. pure (value.Number (neg_ℤ n -ℤ pos 1))))
+  with_primitive (wanted.Update form op r place) v = giving (do
     n ← convert.number_or_fault (calls go) (numeric_of v) place
     m ← convert.stepped (calls go) op n place
     _written ← expression.write by_slots cx (reference_of r) (value.Number m) place
-    pure (expression.given_by form (value.Number n) (value.Number m))
+    pure (expression.given_by form (value.Number n) (value.Number m)))
   with_primitive (wanted.Index purpose base place rest) v =
-      get base (text_of v) place >>= (λ w. suffixes_by purpose base w (suffixes_of rest.now))
-  with_primitive (wanted.Key base) v = set_base base >> pure v
-  with_primitive (wanted.In object place next) v = has_property object (text_of v) place >>= after_operator next
+      get base (text_of v) place >=> (λ w. suffixes_by purpose base w (suffixes_of rest.now))
+  with_primitive (wanted.Key base place) v = referring (pure (to_property place base (text_of v)))
+  with_primitive (wanted.In object place next) v = giving (has_property object (text_of v) place >>= after_operator next)
   with_primitive (wanted.Left op right place next) v =
-      convert.to_primitive (calls go) convert.number_methods right place >>= (λ b. operate op v b place next)
-  with_primitive (wanted.Right op left place next) v = operate op left v place next
+      giving (convert.to_primitive (calls go) convert.number_methods right place >>= (λ b. operate op v b place next))
+  with_primitive (wanted.Right op left place next) v = giving (operate op left v place next)
   with_primitive (wanted.ErrorName error place) v =
-      get (value.Object error) (codes "message") place >>= (λ m. native.text_or (calls go) [] m place
-      >>= (λ message. handed.gives_text (native.joined (text_of v) message) place))
-  with_primitive (wanted.ErrorMessage name place) v = handed.gives_text (native.joined name (text_of v)) place
+      giving (get (value.Object error) (codes "message") place >>= (λ m. native.text_or (calls go) [] m place
+      >>= (λ message. handed.gives_text (native.joined (text_of v) message) place)))
+  with_primitive (wanted.ErrorMessage name place) v = giving (handed.gives_text (native.joined name (text_of v)) place)
   with_primitive (wanted.Handed n left done handed place) v =
-      native.settled (table.conversion_at n (length done)) v place
-      >>= (λ w. native.converted_from (calls go) n left (done ++ w ∷ []) handed place)
+      giving (native.settled (table.conversion_at n (length done)) v place
+      >>= (λ w. native.converted_from (calls go) n left (done ++ w ∷ []) handed place))
   with_primitive (wanted.Element left count array texts separator place) v =
-      native.joined_from (calls go) left count array (texts ++ text_of v ∷ []) separator place
+      giving (native.joined_from (calls go) left count array (texts ++ text_of v ∷ []) separator place)
 
   -- ---- expressions (11)
 
@@ -109,19 +112,8 @@ module _ (functions : List FunctionTree) (go : Within) (cx : Context) where
   after_expression (of_expression.NewArgument callee done left place) v =
       expression.arguments_from by_slots functions go cx (done ++ v ∷ []) (expressions_of left.now)
       >>= (λ vs. expression.constructed by_slots functions go callee vs place)
-  after_expression (of_expression.UpdateTarget form op target place) key = do
-    base ← the_base
-    old ← expression.read by_slots cx (expression.referred target.now key base)
-    n ← convert.to_number (calls go) old place
-    m ← convert.stepped (calls go) op n place
-    _written ← expression.write by_slots cx (expression.referred target.now key base) (value.Number m) place
-    pure (expression.given_by form (value.Number n) (value.Number m))
-  after_expression (of_expression.DeleteName name place) v = delete_bound name.now.name name.now.bound place
-  after_expression (of_expression.DeleteTarget place) key = the_base >>= (λ base. delete_property base (text_of key) place)
   after_expression of_expression.DeleteValue v = pure (value.Bool true)
   after_expression of_expression.Void v = pure value.Undefined
-  after_expression (of_expression.TypeOfName name place) v =
-      read_or_undefined cx name.now place >>= (λ w. reading (λ s. pure (value.Text (convert.type_text s.heap w))))
   after_expression of_expression.TypeOf v = reading (λ s. pure (value.Text (convert.type_text s.heap v)))
   after_expression (of_expression.Plus place) v =
       convert.to_number (calls go) v place >>= (λ n. pure (value.Number n))
@@ -136,9 +128,6 @@ module _ (functions : List FunctionTree) (go : Within) (cx : Context) where
       >>= (λ w. expression.operands_from by_slots functions go cx w (operands_of rest.now))
   after_expression (of_expression.Conditional held otherwise) v =
       if truth_of v then visit go cx held.now else visit go cx otherwise.now
-  after_expression (of_expression.AssignTarget op target e place) key = the_base >>= (λ base.
-      expression.assigned_with by_slots functions go cx place (expression.referred target.now key base) (convert.assigned_by op) e.now
-      >>= (λ v. expression.write by_slots cx (expression.referred target.now key base) v place >> pure v))
   after_expression (of_expression.AssignValue r place) v = expression.write by_slots cx (reference_of r) v place >> pure v
   after_expression (of_expression.AssignOperand op old r place) v =
       convert.binary (calls go) op old v place
@@ -147,19 +136,18 @@ module _ (functions : List FunctionTree) (go : Within) (cx : Context) where
 
   -- ---- suffixes (11.2)
 
-  abbrev pub after_suffix : SuffixFrame → Value → Does Value
-  after_suffix (of_suffix.First purpose first suffixes) v =
-      expression.this_behind first.now >>= (λ this. suffixes_by purpose this v (suffixes_of suffixes.now))
+  abbrev pub after_suffix : SuffixFrame → Value → DoesEither
+  after_suffix (of_suffix.First purpose suffixes) v = suffixes_by purpose global_object v (suffixes_of suffixes.now)
   after_suffix (of_suffix.Index purpose base place rest) v =
-      test_base base place >> convert.to_primitive (calls go) convert.text_methods v place
-      >>= (λ key. get base (text_of key) place >>= (λ w. suffixes_by purpose base w (suffixes_of rest.now)))
+      test_base base place >=> (λ _. convert.to_primitive (calls go) convert.text_methods v place
+      >=> (λ key. get base (text_of key) place >=> (λ w. suffixes_by purpose base w (suffixes_of rest.now))))
   after_suffix (of_suffix.Key base place) v =
-      test_base base place >> convert.to_primitive (calls go) convert.text_methods v place
-      >>= (λ key. set_base base >> pure key)
+      test_base base place >=> (λ _. convert.to_primitive (calls go) convert.text_methods v place
+      >=> (λ key. referring (pure (to_property place base (text_of key)))))
   after_suffix (of_suffix.Argument call done left) v =
       expression.arguments_from by_slots functions go cx (done ++ v ∷ []) (expressions_of left.now)
-      >>= (λ vs. convert.call_value (calls go) call.callee call.this vs call.place
-      >>= (λ w. suffixes_by call.aim global_object w (suffixes_of call.rest.now)))
+      >=> (λ vs. convert.call_value (calls go) call.callee call.this vs call.place
+      >=> (λ w. suffixes_by call.aim global_object w (suffixes_of call.rest.now)))
   after_suffix (of_suffix.Called purpose rest) v = suffixes_by purpose global_object v (suffixes_of rest.now)
 
   -- ---- statements (12)
@@ -237,10 +225,15 @@ module _ (functions : List FunctionTree) (go : Within) (cx : Context) where
   rest_of_loop (of_loop.ForInObject l) after =
       onward (λ w. statement.listed_names w >>= (λ names.
       statement.charged_names l.place names >> names_from l w names)) after
-  rest_of_loop (of_loop.ForInTarget target name object names l) after =
-      onward (λ key. the_base >>= (λ base. expression.write by_slots cx (expression.referred target.now key base) (value.Text name) l.place)
-      >> (λ after. execute go cx l.body.now (turned_to (names_from l object names) after))) after
+  rest_of_loop (of_loop.ForInTarget name object names l) after = after
   rest_of_loop (of_loop.ForInBody object names l) after = turned_to (names_from l object names) after
+
+  -- a name of the list is written to what the target refers to, and then the body is executed
+  abbrev pub rest_of_target : LoopFrame → Reference → Does Value
+  rest_of_target (of_loop.ForInTarget name object names l) r =
+      expression.write by_slots cx r (value.Text name) l.place
+      >> (λ after. execute go cx l.body.now (turned_to (names_from l object names) after))
+  rest_of_target f r = λ after. rest_of_loop f after (Ok value.Undefined)
 
   -- ---- entries (13.2)
 
@@ -251,18 +244,37 @@ module _ (functions : List FunctionTree) (go : Within) (cx : Context) where
       onward (λ _. statement.statements_from by_slots functions go cx (statements_of rest.now))
       (returned_to value.Undefined (onward (λ v. pure (entry.object_or (value.Object made) v)) after))
 
+  -- ---- what an expression refers to (8.7)
+
+  abbrev pub after_target : TargetFrame → Reference → DoesEither
+  after_target (of_target.First purpose suffixes) r =
+      expression.read by_slots cx r >=> (λ v. suffixes_by purpose (expression.this_of r) v (suffixes_of suffixes.now))
+  after_target (of_target.Update form op place) r = giving (do
+    old ← expression.read by_slots cx r
+    n ← convert.to_number (calls go) old place
+    m ← convert.stepped (calls go) op n place
+    _written ← expression.write by_slots cx r (value.Number m) place
+    pure (expression.given_by form (value.Number n) (value.Number m)))
+  after_target (of_target.Delete place) r = giving (expression.delete by_slots cx r place)
+  after_target of_target.TypeOf r =
+      giving (expression.read_or_undefined by_slots cx r >>= (λ w. reading (λ s. pure (value.Text (convert.type_text s.heap w)))))
+  after_target (of_target.Assign op e place) r =
+      giving (expression.assigned_with by_slots functions go cx place r (convert.assigned_by op) e.now
+      >>= (λ v. expression.write by_slots cx r v place >> pure v))
+
   -- ---- all of them
 
-  abbrev pub rest_of_frame : Frame → AfterValue → AfterValue
-  rest_of_frame frame.Hold after = after
-  rest_of_frame (frame.Expression f) after = onward (after_expression f) after
-  rest_of_frame (frame.Suffix f) after = onward (after_suffix f) after
-  rest_of_frame (frame.Statement f) after = rest_of_statement f after
-  rest_of_frame (frame.Loop f) after = rest_of_loop f after
-  rest_of_frame (frame.Entry f) after = rest_of_entry f after
-  rest_of_frame (frame.Primitive object ms place w) after =
-      onward (λ v. if is_object v then convert.primitive_by (calls go) (names_of ms) object place else pure v)
-      (onward (with_primitive w) after)
+  abbrev pub rest_of_frame : Frame → Rest → Rest
+  rest_of_frame frame.Hold rest = rest
+  rest_of_frame (frame.Expression f) rest = waits_for_value (onward (after_expression f) rest.given)
+  rest_of_frame (frame.Suffix f) rest = waits_for_value (either_after (after_suffix f) rest)
+  rest_of_frame (frame.Target f) rest = record { given = rest.given; referred = λ r. after_target f r rest }
+  rest_of_frame (frame.Statement f) rest = waits_for_value (rest_of_statement f rest.given)
+  rest_of_frame (frame.Loop f) rest = record { given = rest_of_loop f rest.given; referred = λ r. rest_of_target f r rest.given }
+  rest_of_frame (frame.Entry f) rest = waits_for_value (rest_of_entry f rest.given)
+  rest_of_frame (frame.Primitive object ms place w) rest =
+      waits_for_value (onward (λ v. if is_object v then convert.primitive_by (calls go) (names_of ms) object place else pure v)
+      (either_after (with_primitive w) rest))
 
 -- ---- the whole stack
 
@@ -276,7 +288,7 @@ abbrev pub within : List FunctionTree → List Open → Within
 within functions fs = evaluation by_slots functions (room fs - 1)
 
 -- What all of them make of an end, the innermost first; last: what comes after the outermost.
-abbrev pub rest_of : List FunctionTree → AfterValue → List Open → AfterValue
-rest_of functions last [] = last
+abbrev pub rest_of : List FunctionTree → AfterValue → List Open → Rest
+rest_of functions last [] = waits_for_value last
 rest_of functions last (f ∷ fs) =
     rest_of_frame functions (within functions fs) (context_of f.context) f.frame (rest_of functions last fs)

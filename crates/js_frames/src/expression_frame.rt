@@ -1,10 +1,7 @@
 // Expressions that are open.
 use crate::Reference;
 use heap_values::{ObjectId, Value};
-use js_tree::{
-    AssignOp, BinaryOp, BoundName, Expression, Operand, Place, Property, Suffix, UpdateForm,
-    UpdateOp,
-};
+use js_tree::{BinaryOp, Expression, Operand, Place, Property, Suffix};
 use utf16_text::{List, Text};
 
 /// What suffixes are applied for.
@@ -45,30 +42,9 @@ pub enum ExpressionFrame<'p> {
         left: &'p [Expression],
         place: Place,
     },
-    /// The target of `++` or `--`.
-    UpdateTarget {
-        form: UpdateForm,
-        op: UpdateOp,
-        target: &'p Expression,
-        place: Place,
-    },
-    /// The name that is deleted.
-    DeleteName {
-        name: &'p BoundName,
-        place: Place,
-    },
-    /// The target that is deleted.
-    DeleteTarget {
-        place: Place,
-    },
     /// What is no target, and so is there no longer.
     DeleteValue,
     Void,
-    /// The name of which `typeof` asks, with its own place.
-    TypeOfName {
-        name: &'p BoundName,
-        place: Place,
-    },
     TypeOf,
     Plus {
         place: Place,
@@ -95,12 +71,6 @@ pub enum ExpressionFrame<'p> {
     Conditional {
         held: &'p Expression,
         otherwise: &'p Expression,
-    },
-    AssignTarget {
-        op: AssignOp,
-        target: &'p Expression,
-        value: &'p Expression,
-        place: Place,
     },
     /// The value of `=`.
     AssignValue {
@@ -133,10 +103,9 @@ pub struct OpenCall<'p> {
 /// What is left of an expression with suffixes. Each place is that of the suffix.
 #[derive(Drop)]
 pub enum SuffixFrame<'p> {
-    /// What the first suffix is applied to.
+    /// What the first suffix is applied to, where it is no reference to a property.
     First {
         aim: Aim,
-        first: &'p Expression,
         suffixes: &'p [Suffix],
     },
     /// An index of a base.

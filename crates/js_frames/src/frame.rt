@@ -2,7 +2,9 @@
 ghost use Rattle.std.specs.Prelude.{◌≡◌};
 ghost use Rattle.js_frames.specs.Unwinding.{is_break, is_return, is_throw, kind_of, takes, turns};
 
-use crate::{ExpressionFrame, LoopFrame, Methods, StatementFrame, SuffixFrame, Wanted};
+use crate::{
+    ExpressionFrame, LoopFrame, Methods, StatementFrame, SuffixFrame, TargetFrame, Wanted,
+};
 use heap_values::{ObjectId, ScopeId, Value};
 use js_evaluation::Thrown;
 use js_tree::{Place, Statement};
@@ -29,6 +31,7 @@ pub enum Frame<'p> {
     Hold,
     Expression(ExpressionFrame<'p>),
     Suffix(SuffixFrame<'p>),
+    Target(TargetFrame<'p>),
     Statement(StatementFrame<'p>),
     Loop(LoopFrame<'p>),
     Entry(EntryFrame<'p>),

@@ -11,6 +11,7 @@ mod laws;
 mod names_left;
 mod reference;
 mod statement_frame;
+mod target_frame;
 mod wanted;
 
 pub use expression_frame::{Aim, ExpressionFrame, OpenCall, SuffixFrame};
@@ -18,6 +19,7 @@ pub use frame::{Context, EndKind, EntryFrame, Frame, Open};
 pub use frames::Frames;
 pub use laws::{unwinding_closes, unwinding_keeps_the_rest};
 pub use names_left::NamesLeft;
-pub use reference::Reference;
+pub use reference::{OUTSIDE, Reference};
 pub use statement_frame::{ForInLoop, ForLoop, LoopFrame, StatementFrame, WhileLoop};
+pub use target_frame::TargetFrame;
 pub use wanted::{Methods, Operated, Wanted};

@@ -1,4 +1,8 @@
 // What an expression refers to.
+ghost use Rattle.std.specs.Prelude.{◌≡◌};
+ghost use Rattle.js_evaluation.specs.Expressions.{no_reference};
+ghost use Rattle.js_frames.specs.Parts.{reference_of};
+
 use heap_values::Value;
 use js_tree::{BoundName, Place};
 
@@ -15,4 +19,20 @@ pub enum Reference<'p> {
         base: Value,
         key: Value,
     },
+}
+
+/// The place of what arises outside every node.
+pub const OUTSIDE: Place = Place { line: 0, column: 0 };
+
+impl<'p> Reference<'p> {
+    /// What refers to nothing. Names and properties alone are asked for what they refer to, so it comes up in no run.
+    pub fn none() -> Reference<'p>
+        ensures { reference_of result ≡ no_reference }
+    {
+        Reference::Property {
+            place: OUTSIDE,
+            base: Value::Undefined,
+            key: Value::Undefined,
+        }
+    }
 }

@@ -137,9 +137,8 @@ pub enum LoopFrame<'p> {
     ForInObject {
         looped: ForInLoop<'p>,
     },
-    /// The target that a name is written to, with the names that are left.
+    /// What the target refers to, to which a name is written, with the names that are left.
     ForInTarget {
-        target: &'p Expression,
         name: Text,
         object: Value,
         names: NamesLeft,

@@ -59,6 +59,7 @@ pub enum Wanted<'p> {
     /// The name of the property that a target refers to.
     Key {
         base: Value,
+        place: Place,
     },
     /// The left side of `in`.
     In {

@@ -1,5 +1,5 @@
 -- The call of the script's function.
-use Rattle.std.proofs.Common.{◌≡◌, ℕ, List, [], ◌∷◌, Option, Some, None, Result, Ok, Err, refl, sym, ap, subst, ◌∙◌}
+use Rattle.std.proofs.Common.{◌≡◌, ℕ, List, [], ◌∷◌, Option, Some, None, Result, Ok, Err, refl, ap, subst}
 use Rattle.std.specs.Prelude.{codes}
 use Rattle.std.specs.Result.{IsErrAnd}
 use Rattle.js_tree.specs.Tree.{FunctionTree}
@@ -62,7 +62,7 @@ module _ (functions : List FunctionTree) (entry : def.Entry) (f : ObjectId) (m :
   of_host = test_text entry.host outside
 
   abbrev entered : Does Value
-  entered = evaluation by_slots functions MOST_OPEN (call_part f global_object (value.Text entry.url ∷ value.Text entry.host ∷ []) outside)
+  entered = (evaluation by_slots functions MOST_OPEN).value (call_part f global_object (value.Text entry.url ∷ value.Text entry.host ∷ []) outside)
 
   -- both texts are short enough
   pub tested_runs : (m' : Machine) (after : Seen) → Works of_url m.state.heap (Ok tt) m.state.heap → Works of_host m.state.heap (Ok tt) m.state.heap
@@ -87,9 +87,9 @@ module _ (functions : List FunctionTree) (entry : def.Entry) (f : ObjectId) (m :
 pub call_runs : (entry : def.Entry) (f global : ObjectId) (arguments : List Value) (m : Machine) (before : Seen) (r : Result (Result Value Stop) Cut) (m' : Machine) (after : Seen)
     → m.frames ≡ [] → global.0 ≡ built_in_number built_in.Global → arguments ≡ value.Text entry.url ∷ value.Text entry.host ∷ []
     → Closes m (now.Begin (part.Call f (value.Object global) arguments outside)) before r m' after
-    → RunsBy (evaluation by_slots (functions_of m) MOST_OPEN (call_part f global_object (value.Text entry.url ∷ value.Text entry.host ∷ []) outside)) m before r m' after
+    → RunsBy ((evaluation by_slots (functions_of m) MOST_OPEN).value (call_part f global_object (value.Text entry.url ∷ value.Text entry.host ∷ []) outside)) m before r m' after
 call_runs entry f global arguments m before r m' after empty is handed k =
     let same : global ≡ built_in_object built_in.Global = ap (λ (n : ℕ). record { 0 = n }) is in
-    subst (λ (vs : List Value). RunsBy (evaluation by_slots (functions_of m) MOST_OPEN (call_part f global_object vs outside)) m before r m' after) handed
-    (subst (λ (id : ObjectId). RunsBy (evaluation by_slots (functions_of m) MOST_OPEN (call_part f (value.Object id) arguments outside)) m before r m' after) same
+    subst (λ (vs : List Value). RunsBy ((evaluation by_slots (functions_of m) MOST_OPEN).value (call_part f global_object vs outside)) m before r m' after) handed
+    (subst (λ (id : ObjectId). RunsBy ((evaluation by_slots (functions_of m) MOST_OPEN).value (call_part f (value.Object id) arguments outside)) m before r m' after) same
     (loop_runs m (part.Call f (value.Object global) arguments outside) before r m' after empty k))

@@ -1,5 +1,5 @@
 -- How a run over a host ends.
-use Rattle.std.proofs.Common.{◌≡◌, ℕ, List, Option, Some, None, Result, Ok, Err, refl, sym, ap, ◌∙◌}
+use Rattle.std.proofs.Common.{◌≡◌, ℕ, List, Option, Some, Result, Ok, Err, sym, ap, ◌∙◌}
 use Rattle.std.specs.Prelude.{map, unwrap_or}
 use Rattle.js_tree.specs.declared.expression.Function.{Function}
 use Rattle.js_tree.specs.declared.statement.Statement.{Statement}

@@ -1,5 +1,5 @@
 -- Runs of a machine on which no part is open.
-use Rattle.std.proofs.Common.{◌≡◌, ℕ, List, [], Option, Some, None, Result, Ok, Err, refl, sym, ap, subst, ◌∙◌}
+use Rattle.std.proofs.Common.{◌≡◌, List, [], Result, Ok, Err, sym, ap, subst, ◌∙◌}
 use Rattle.std.specs.Result.{IsErrAnd}
 use Rattle.heap_values.specs.declared.value.Value.{Value}
 use Rattle.heap_values.specs.Views.{HeapView}
@@ -12,6 +12,9 @@ use Rattle.run_trees.specs.Runs.{◌>>=◌, onward}
 use Rattle.js_evaluation.specs.Scoping.{by_slots}
 use Rattle.js_evaluation.specs.State.{RunEnd, Stop, Does, AfterValue}
 use Rattle.js_evaluation.specs.Evaluation.{evaluation}
+use Rattle.js_evaluation.specs.Objects.{Context}
+use Rattle.js_evaluation.specs.Parts.{Within}
+use Rattle.js_frames.specs.Rests.{waits_for_value}
 use Rattle.js_frames.specs.RestOf.{room, rest_of}
 use Rattle.js_frames.specs.Parts.{context_of}
 use Rattle.js_frames.specs.declared.frame.Open.{Open}
@@ -21,7 +24,7 @@ use Rattle.heap_steps.specs.Works.{Works}
 use Rattle.js_machine.specs.declared.machine.Machine.{Machine}
 use Rattle.js_machine.specs.declared.now.Now.TheVariants as now
 use Rattle.js_machine.specs.declared.now.Part.{Part}
-use Rattle.js_machine.specs.Moves.{functions_of, part_of, run_state, beside_of}
+use Rattle.js_machine.specs.Moves.{functions_of, begun, run_state, beside_of}
 use Rattle.js_machine.proofs.Steps.{with_heap}
 use Rattle.js_runs.specs.declared.running.Cut.{Cut}
 use Rattle.js_runs.specs.declared.running.Cut.TheVariants as cut
@@ -40,11 +43,15 @@ closed_reaches last walked (Err (cut.Halt (halt.LeftOut name place))) m seen k =
 closed_reaches last walked (Err (cut.Halt halt.Memory)) m seen k = tt
 closed_reaches last walked (Err (cut.Missing name)) m seen k = k
 
+-- a part, with what comes after the outermost one
+abbrev pub begun_whole : Within → Context → Part → Does Value
+begun_whole go cx first = λ last. begun go cx first (waits_for_value last)
+
 -- the loop does a part to its end
 pub loop_runs : (m : Machine) (first : Part) (before : Seen) (r : Result (Result Value Stop) Cut) (m' : Machine) (after : Seen) → m.frames ≡ [] → Closes m (now.Begin first) before r m' after
-    → RunsBy (evaluation by_slots (functions_of m) MOST_OPEN (part_of (context_of m.context) first)) m before r m' after
+    → RunsBy (begun_whole (evaluation by_slots (functions_of m) MOST_OPEN) (context_of m.context) first) m before r m' after
 loop_runs m first before r m' after empty k last =
-    closed_reaches last _ r m' after (subst (λ (fs : List Open). Closed last (walk (evaluation by_slots (functions_of m) (room fs) (part_of (context_of m.context) first) (rest_of (functions_of m) last fs) (run_state m.state)) before) r m' after)
+    closed_reaches last _ r m' after (subst (λ (fs : List Open). Closed last (walk (begun (evaluation by_slots (functions_of m) (room fs)) (context_of m.context) first (rest_of (functions_of m) last fs) (run_state m.state)) before) r m' after)
     empty (k.closes last))
 
 -- want of memory promises nothing

@@ -13,6 +13,7 @@ use heap_steps::Halt;
 use heap_values::{Found, Kind, ObjectId, Value};
 use js_convert::to_text;
 use js_evaluation::{Fault, FaultCode, Thrown};
+use js_frames::OUTSIDE;
 use js_host::kept_units;
 use js_machine::End;
 use js_native_calls::joined;
@@ -22,9 +23,6 @@ use object_heap::Heap;
 use run_trees::Abrupt;
 use std::alloc::Global;
 use utf16_text::{Memory, Text};
-
-/// The place of what arises outside the script.
-pub(crate) const OUTSIDE: Place = Place { line: 0, column: 0 };
 
 /// How a run ends that comes to this with this heap. What is thrown and not handled is a fault.
 pub(crate) fn ending(alloc: Global, heap: &Heap, end: Result<End, Halt>) -> Result<Ending, Memory>

@@ -14,12 +14,12 @@ ghost use Rattle.js_interp.specs.Answers.{Answers, entry_of, run_of};
 ghost use Rattle.js_interp.specs.Runs.{Begun, EndsOver, KeepsAlerts, RunsBy, called};
 ghost use Rattle.js_runs.specs.Closes.{KeptAtEnd};
 
-use crate::endings::{OUTSIDE, ending};
+use crate::endings::ending;
 use crate::{Ending, Entry, Outcome};
 use heap_steps::{Halt, callable, test_text};
 use heap_values::{BuiltIn, Found, ObjectId, Value};
 use js_evaluation::FaultCode;
-use js_frames::{Context, Frames};
+use js_frames::{Context, Frames, OUTSIDE};
 use js_host::Host;
 use js_machine::{End, Machine, Part, State};
 use js_runs::{Cut, run_on};
@@ -120,7 +120,6 @@ fn begin<'p>(alloc: Global, functions: &'p [Function], entry: &Entry) -> Result<
         state: State {
             heap,
             fuel: entry.fuel,
-            base: Value::Undefined,
             now: entry.now,
             settings: entry.settings,
         },

@@ -6,6 +6,7 @@ pub mod OfObjects
 pub mod OfByNames
 pub mod OfBySlots
 pub mod OfScoping
+pub mod OfParts
 pub mod OfConversions
 pub mod OfPacNatives
 pub mod OfNativeWork

@@ -21,12 +21,13 @@ use Rattle.js_evaluation.specs.State.{built_in_object, global_object}
 use Rattle.js_evaluation.specs.Objects.{Context, arity_of, global_id}
 use Rattle.js_evaluation.specs.NativeTable.{native_of}
 use Rattle.js_evaluation.specs.Scoping.{Scoping}
-use Rattle.js_evaluation.specs.Parts.{Part, call_part, Within, calls}
+use Rattle.js_evaluation.specs.Parts.{call_part, Within, calls}
 use Rattle.js_evaluation.specs.Statements.{statements_from}
 use Rattle.js_evaluation.specs.Entries as def
 use Rattle.js_law_evaluation.proofs.OfState.{Ends, gives, reads, ◌onto◌, ◌then◌, either, returns, make-ends, define-ends, write_slot-ends, throw_type_error-ends}
 use Rattle.js_law_evaluation.proofs.OfObjects.{get-ends, elements_from-ends, closure-ends}
 use Rattle.js_law_evaluation.proofs.OfScoping.{WordsEnd}
+use Rattle.js_law_evaluation.proofs.OfParts.{WithinEnds}
 use Rattle.js_law_evaluation.proofs.OfConversions.{CallsEnd}
 use Rattle.js_law_evaluation.proofs.OfNatives.{native_outcome-ends}
 use Rattle.js_law_evaluation.proofs.OfStatements.{statements_from-ends}
@@ -95,11 +96,11 @@ global_variables-ends p (name ∷ names) =
     reads (λ s. declared_unless-ends (found_of s.heap global_id name) name p) then global_variables-ends p names
 
 module _ {scoping : Scoping} (words : WordsEnd scoping) (functions : List FunctionTree)
-    {go : Within} (ends : (part : Part) → Ends (go part)) where
+    {go : Within} (ends : WithinEnds go) where
   -- ---- the parts within
 
   calls-end : CallsEnd (calls go)
-  calls-end f this vs p = ends (call_part f this vs p)
+  calls-end f this vs p = ends.value (call_part f this vs p)
 
   body-ends : (cx : Context) (ss : Statements) → Ends (statements_from scoping functions go cx ss)
   body-ends cx ss = statements_from-ends words functions ends cx ss

@@ -8,29 +8,35 @@ use Rattle.object_heap.specs.Heap.{found_of}
 use Rattle.js_evaluation.specs.State.{global_object}
 use Rattle.js_evaluation.specs.Objects.{global_id}
 use Rattle.js_evaluation.specs.Scoping.{Scoping, by_slots}
-use Rattle.js_evaluation.specs.Parts.{Part, expression_part, target_part, statement_part, call_part, construct_part, load_part, Within, part_place, outside}
+use Rattle.js_evaluation.specs.Parts.{Part, expression_part, statement_part, call_part, construct_part, load_part, Within, expression_place, part_place, outside}
 use Rattle.js_evaluation.specs.Evaluation.{node, evaluation, Entry, entry_of, called_for, script_run, outer_scope, run_by_names}
 use Rattle.js_law_evaluation.specs.Laws.{AsksLookupNames, RunsAskLookupNames}
 use Rattle.js_law_evaluation.proofs.OfState.{Ends, fails, reads, ◌then◌, charges-ends, test_text-ends}
 use Rattle.js_law_evaluation.proofs.OfScoping.{WordsEnd, by_names-end, by_slots-end}
+use Rattle.js_law_evaluation.proofs.OfParts.{WithinEnds}
 use Rattle.js_law_evaluation.proofs.OfExpressions.{target_node-ends, expression_node-ends}
 use Rattle.js_law_evaluation.proofs.OfStatements.{statement_node-ends}
 use Rattle.js_law_evaluation.proofs.OfEntries.{call_node-ends, construct_node-ends, load_node-ends}
 use Rattle.js_evaluation.specs.declared.limits.TheConstants.{MOST_OPEN}
 
 module _ {scoping : Scoping} (words : WordsEnd scoping) (functions : List FunctionTree) where
-  node-ends : {go : Within} → ((part : Part) → Ends (go part)) → (part : Part) → Ends (node scoping functions go part)
+  node-ends : {go : Within} → WithinEnds go → (part : Part) → Ends (node scoping functions go part)
   node-ends ends (expression_part cx e) = expression_node-ends words functions ends cx e
-  node-ends ends (target_part cx e) = target_node-ends words functions ends cx e
   node-ends ends (statement_part cx s) = statement_node-ends words functions ends cx s
   node-ends ends (call_part f this vs p) = call_node-ends words functions ends f this vs p
   node-ends ends (construct_part f vs p) = construct_node-ends words functions ends f vs p
   node-ends ends (load_part outer ss) = load_node-ends words functions ends outer ss outside
 
-  pub evaluation-ends : (room : ℕ) (part : Part) → Ends (evaluation scoping functions room part)
+  pub evaluation-ends : (room : ℕ) → WithinEnds (evaluation scoping functions room)
   unfolding evaluation
-  evaluation-ends zero part = charges-ends 1 (part_place part) then fails _ (part_place part)
-  evaluation-ends (suc room) part = charges-ends 1 (part_place part) then node-ends (evaluation-ends room) part
+  evaluation-ends zero = record {
+    value = λ part. charges-ends 1 (part_place part) then fails _ (part_place part);
+    reference = λ cx e. charges-ends 1 (expression_place e) then fails _ (expression_place e);
+  }
+  evaluation-ends (suc room) = record {
+    value = λ part. charges-ends 1 (part_place part) then node-ends (evaluation-ends room) part;
+    reference = λ cx e. charges-ends 1 (expression_place e) then target_node-ends words functions (evaluation-ends room) cx e;
+  }
 
   -- ---- a run
 
@@ -38,11 +44,11 @@ module _ {scoping : Scoping} (words : WordsEnd scoping) (functions : List Functi
   called_for-ends entry None = fails _ outside
   called_for-ends entry (Some f) =
       test_text-ends entry.url outside then test_text-ends entry.host outside
-      then evaluation-ends MOST_OPEN (call_part f global_object (value.Text entry.url ∷ value.Text entry.host ∷ []) outside)
+      then (evaluation-ends MOST_OPEN).value (call_part f global_object (value.Text entry.url ∷ value.Text entry.host ∷ []) outside)
 
   pub runs-end : (entry : Entry) (ss : Statements) → Ends (script_run scoping functions entry ss)
   runs-end entry ss =
-      evaluation-ends MOST_OPEN (load_part outer_scope ss)
+      (evaluation-ends MOST_OPEN).value (load_part outer_scope ss)
       then reads (λ s. called_for-ends entry (entry_of s.heap (found_of s.heap global_id (codes "FindProxyForURL"))))
 
 pub tree_by-asks : {scoping : Scoping} → WordsEnd scoping → RunsAskLookupNames scoping

@@ -20,30 +20,39 @@ use Rattle.heap_values.specs.declared.value.Value.{Value}
 use Rattle.heap_values.specs.declared.value.Value.TheVariants as value
 use Rattle.object_heap.specs.Heap.{object_at, kind_in}
 use Rattle.js_convert.specs.Numeric.{truth_of}
-use Rattle.js_convert.specs.Texts.{text_of}
 use Rattle.js_evaluation.specs.State.{built_in_object, global_object}
 use Rattle.js_evaluation.specs.Objects.{Context, arity_of}
 use Rattle.js_evaluation.specs.Scoping.{Scoping}
-use Rattle.js_evaluation.specs.Parts.{Part, expression_part, target_part, call_part, construct_part, Within, visit, visit_target, calls, construct, suffix_place}
-use Rattle.js_evaluation.specs.Conversions.{text_methods, assigned_by, type_text}
+use Rattle.js_evaluation.specs.Parts.{expression_part, call_part, construct_part, Reference, to_name, to_property, Within, visit, refer, calls, construct, suffix_place}
+use Rattle.js_evaluation.specs.Conversions.{assigned_by, type_text}
 use Rattle.js_evaluation.specs.NativeTable.{constructs, native_of}
 use Rattle.js_evaluation.specs.Expressions as def
-use Rattle.js_evaluation.specs.Expressions.{Reference, to_name, to_property, referred}
-use Rattle.js_law_evaluation.proofs.OfState.{Ends, gives, halts, reads, ◌onto◌, ◌then◌, either, charges-ends, make-ends, define-ends, write_slot-ends, test_text-ends, set_base-ends, the_base-ends, throw_type_error-ends}
+use Rattle.js_law_evaluation.proofs.OfState.{Ends, gives, halts, reads, ◌onto◌, ◌then◌, either, charges-ends, make-ends, define-ends, write_slot-ends, test_text-ends, throw_type_error-ends}
 use Rattle.js_law_evaluation.proofs.OfObjects.{get-ends, put-ends, test_base-ends, delete_property-ends, closure-ends}
 use Rattle.js_law_evaluation.proofs.OfScoping.{WordsEnd}
-use Rattle.js_law_evaluation.proofs.OfConversions.{CallsEnd, call_value-ends, to_number-ends, to_primitive-ends, to_bits-ends, binary-ends, stepped-ends}
+use Rattle.js_law_evaluation.proofs.OfParts.{WithinEnds}
+use Rattle.js_law_evaluation.proofs.OfConversions.{CallsEnd, call_value-ends, to_text-ends, to_number-ends, to_bits-ends, binary-ends, stepped-ends}
 
 -- ---- references
 
 read-ends : {scoping : Scoping} → WordsEnd scoping → (cx : Context) (r : Reference) → Ends (def.read scoping cx r)
 read-ends words cx (to_name p x) = words.read_name cx x p
-read-ends words cx (to_property p base key) = get-ends base key p
+read-ends words cx (to_property p base name) = get-ends base name p
+
+read_or_undefined-ends : {scoping : Scoping} → WordsEnd scoping → (cx : Context) (r : Reference)
+    → Ends (def.read_or_undefined scoping cx r)
+read_or_undefined-ends words cx (to_name p x) = words.read_or_undefined cx x p
+read_or_undefined-ends words cx (to_property p base name) = get-ends base name p
 
 pub write-ends : {scoping : Scoping} → WordsEnd scoping → (cx : Context) (r : Reference) (v : Value) (place : Place)
     → Ends (def.write scoping cx r v place)
 write-ends words cx (to_name p x) v place = words.write_name cx x v place
-write-ends words cx (to_property p base key) v place = put-ends base key v place
+write-ends words cx (to_property p base name) v place = put-ends base name v place
+
+delete-ends : {scoping : Scoping} → WordsEnd scoping → (cx : Context) (r : Reference) (place : Place)
+    → Ends (def.delete scoping cx r place)
+delete-ends words cx (to_name p x) place = words.delete_name cx x place
+delete-ends words cx (to_property p base name) place = delete_property-ends base name place
 
 -- ---- what visits no part
 
@@ -55,25 +64,21 @@ end_of_array-ends p array count false = gives (value.Object array)
 text_literal-ends : (p : Place) (t : List ℕ) → Ends (def.text_literal p t)
 text_literal-ends p t = test_text-ends t p then gives (value.Text t)
 
-this_behind-ends : (e : ExpressionTree) → Ends (def.this_behind e)
-this_behind-ends (Suffixed p e ss) = the_base-ends
-this_behind-ends e = gives global_object
-
 module _ {scoping : Scoping} (words : WordsEnd scoping) (functions : List FunctionTree)
-    {go : Within} (ends : (part : Part) → Ends (go part)) where
+    {go : Within} (ends : WithinEnds go) where
   -- ---- the parts within
 
   visit-ends : (cx : Context) (e : ExpressionTree) → Ends (visit go cx e)
-  visit-ends cx e = ends (expression_part cx e)
+  visit-ends cx e = ends.value (expression_part cx e)
 
-  target-ends : (cx : Context) (e : ExpressionTree) → Ends (visit_target go cx e)
-  target-ends cx e = ends (target_part cx e)
+  refer-ends : (cx : Context) (e : ExpressionTree) → Ends (refer go cx e)
+  refer-ends cx e = ends.reference cx e
 
   calls-end : CallsEnd (calls go)
-  calls-end f this vs p = ends (call_part f this vs p)
+  calls-end f this vs p = ends.value (call_part f this vs p)
 
   construct-ends : (f : ObjectId) (vs : List Value) (p : Place) → Ends (construct go f vs p)
-  construct-ends f vs p = ends (construct_part f vs p)
+  construct-ends f vs p = ends.value (construct_part f vs p)
 
   -- ---- literals
 
@@ -117,48 +122,51 @@ module _ {scoping : Scoping} (words : WordsEnd scoping) (functions : List Functi
   arguments_from-ends cx done no_expression = gives done
   arguments_from-ends cx done (an_expression e es) = visit-ends cx e onto (λ v. arguments_from-ends cx (done ++ v ∷ []) es)
 
-  key_of-ends : (cx : Context) (base : Value) (e : ExpressionTree) (p : Place)
-      → Ends (def.key_of scoping functions go cx base e p)
-  key_of-ends cx base e p = visit-ends cx e onto (λ v. test_base-ends base p then to_primitive-ends (calls go) calls-end text_methods v p)
+  name_under-ends : (cx : Context) (base : Value) (e : ExpressionTree) (p : Place)
+      → Ends (def.name_under scoping functions go cx base e p)
+  name_under-ends cx base e p = visit-ends cx e onto (λ v. test_base-ends base p then to_text-ends (calls go) calls-end v p)
+
+  referred_at-ends : (cx : Context) (v : Value) (s : SuffixTree) → Ends (def.referred_at scoping functions go cx v s)
+  referred_at-ends cx v (a_member p name) = test_base-ends v p then gives (to_property p v name)
+  referred_at-ends cx v (an_index p e) = name_under-ends cx v e p onto (λ name. gives (to_property p v name))
+  referred_at-ends cx v (a_call p es) = gives def.no_reference
+
+  read_with_this-ends : (cx : Context) (r : Reference) → Ends (def.read_with_this scoping functions go cx r)
+  read_with_this-ends cx r = read-ends words cx r onto (λ v. gives (def.this_of r, v))
 
   suffix_at-ends : (cx : Context) (this v : Value) (s : SuffixTree)
       → Ends (def.suffix_at scoping functions go cx this v s)
-  suffix_at-ends cx this v (a_member p name) = test_base-ends v p then get-ends v name p onto (λ w. gives (v, w))
-  suffix_at-ends cx this v (an_index p e) = key_of-ends cx v e p onto (λ key. get-ends v (text_of key) p onto (λ w. gives (v, w)))
   suffix_at-ends cx this v (a_call p es) =
       arguments_from-ends cx [] es onto (λ vs. call_value-ends (calls go) calls-end v this vs p onto (λ w. gives (global_object, w)))
+  suffix_at-ends cx this v s = referred_at-ends cx v s onto (λ r. read_with_this-ends cx r)
 
   suffixes_from-ends : (cx : Context) (this v : Value) (ss : Suffixes)
       → Ends (def.suffixes_from scoping functions go cx this v ss)
-  suffixes_from-ends cx this v no_suffix = set_base-ends this then gives v
+  suffixes_from-ends cx this v no_suffix = gives v
   suffixes_from-ends cx this v (a_suffix s ss) =
       charges-ends 1 (suffix_place s) then suffix_at-ends cx this v s onto (λ x. suffixes_from-ends cx x.0 x.1 ss)
 
+  with_this-ends : (cx : Context) (e : ExpressionTree) → Ends (def.with_this scoping functions go cx e)
+  with_this-ends cx e = either (def.refers_to_property e)
+      (refer-ends cx e onto (λ r. read_with_this-ends cx r)) (visit-ends cx e onto (λ v. gives (global_object, v)))
+
   suffixed-ends : (cx : Context) (first : ExpressionTree) (ss : Suffixes)
       → Ends (def.suffixed scoping functions go cx first ss)
-  suffixed-ends cx first ss = visit-ends cx first onto (λ v. this_behind-ends first onto (λ this. suffixes_from-ends cx this v ss))
+  suffixed-ends cx first ss = with_this-ends cx first onto (λ x. suffixes_from-ends cx x.0 x.1 ss)
 
-  -- ---- targets of writes
-
-  last_at-ends : (cx : Context) (v : Value) (s : SuffixTree) → Ends (def.last_at scoping functions go cx v s)
-  last_at-ends cx v (a_member p name) = test_base-ends v p then set_base-ends v then gives (value.Text name)
-  last_at-ends cx v (an_index p e) = key_of-ends cx v e p onto (λ key. set_base-ends v then gives key)
-  last_at-ends cx v (a_call p es) = gives value.Undefined
+  -- ---- what is referred to
 
   target_suffixes-ends : (cx : Context) (this v : Value) (ss : Suffixes)
       → Ends (def.target_suffixes scoping functions go cx this v ss)
-  target_suffixes-ends cx this v no_suffix = gives value.Undefined
-  target_suffixes-ends cx this v (a_suffix s no_suffix) = charges-ends 1 (suffix_place s) then last_at-ends cx v s
+  target_suffixes-ends cx this v no_suffix = gives def.no_reference
+  target_suffixes-ends cx this v (a_suffix s no_suffix) = charges-ends 1 (suffix_place s) then referred_at-ends cx v s
   target_suffixes-ends cx this v (a_suffix s (a_suffix t ss)) =
       charges-ends 1 (suffix_place s) then suffix_at-ends cx this v s onto (λ x. target_suffixes-ends cx x.0 x.1 (a_suffix t ss))
 
   pub target_node-ends : (cx : Context) (e : ExpressionTree) → Ends (def.target_node scoping functions go cx e)
-  target_node-ends cx (Suffixed p first ss) =
-      visit-ends cx first onto (λ v. this_behind-ends first onto (λ this. target_suffixes-ends cx this v ss))
-  target_node-ends cx e = gives value.Undefined
-
-  pub reference-ends : (cx : Context) (e : ExpressionTree) → Ends (def.reference scoping functions go cx e)
-  reference-ends cx e = target-ends cx e onto (λ key. the_base-ends onto (λ base. gives (referred e key base)))
+  target_node-ends cx (Name p x) = gives (to_name p x)
+  target_node-ends cx (Suffixed p first ss) = with_this-ends cx first onto (λ x. target_suffixes-ends cx x.0 x.1 ss)
+  target_node-ends cx e = gives def.no_reference
 
   -- ---- `new`
 
@@ -182,18 +190,16 @@ module _ {scoping : Scoping} (words : WordsEnd scoping) (functions : List Functi
   updated-ends : (cx : Context) (p : Place) (f : UpdateForm) (o : UpdateOp) (e : ExpressionTree)
       → Ends (def.updated scoping functions go cx p f o e)
   updated-ends cx p f o e =
-      reference-ends cx e onto (λ r. read-ends words cx r onto (λ old. to_number-ends (calls go) calls-end old p
+      refer-ends cx e onto (λ r. read-ends words cx r onto (λ old. to_number-ends (calls go) calls-end old p
       onto (λ n. stepped-ends (calls go) o n p onto (λ m. write-ends words cx r (value.Number m) p
       then gives (def.given_by f (value.Number n) (value.Number m))))))
 
   deleted-ends : (cx : Context) (p : Place) (e : ExpressionTree) → Ends (def.deleted scoping functions go cx p e)
-  deleted-ends cx p (Name q x) = target-ends cx (Name q x) then words.delete_name cx x p
   deleted-ends cx p e = either (is_target e)
-      (target-ends cx e onto (λ key. the_base-ends onto (λ base. delete_property-ends base (text_of key) p)))
-      (visit-ends cx e then gives (value.Bool true))
+      (refer-ends cx e onto (λ r. delete-ends words cx r p)) (visit-ends cx e then gives (value.Bool true))
 
   type_of-ends : (cx : Context) (e : ExpressionTree) → Ends (def.type_of scoping functions go cx e)
-  type_of-ends cx (Name p x) = target-ends cx (Name p x) then words.read_or_undefined cx x p
+  type_of-ends cx (Name p x) = refer-ends cx (Name p x) onto (λ r. read_or_undefined-ends words cx r)
   type_of-ends cx e = visit-ends cx e
 
   unary_value-ends : (cx : Context) (p : Place) (o : UnaryOp) (e : ExpressionTree)
@@ -239,7 +245,7 @@ module _ {scoping : Scoping} (words : WordsEnd scoping) (functions : List Functi
   assigned-ends : (cx : Context) (p : Place) (e : ExpressionTree) (o : AssignOp) (value : ExpressionTree)
       → Ends (def.assigned scoping functions go cx p e o value)
   assigned-ends cx p e o value =
-      reference-ends cx e onto (λ r. assigned_with-ends cx p r (assigned_by o) value onto (λ v. write-ends words cx r v p then gives v))
+      refer-ends cx e onto (λ r. assigned_with-ends cx p r (assigned_by o) value onto (λ v. write-ends words cx r v p then gives v))
 
   comma_from-ends : (cx : Context) (v : Value) (es : Expressions) → Ends (def.comma_from scoping functions go cx v es)
   comma_from-ends cx v no_expression = gives v

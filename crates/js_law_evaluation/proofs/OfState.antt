@@ -19,7 +19,7 @@ use Rattle.run_trees.proofs.Ending.{one_end-ends, one_end-halt, one_end-next, on
 use Rattle.js_evaluation.specs.declared.fault.FaultCode.{FaultCode}
 use Rattle.js_evaluation.specs.declared.fault.FaultCode.TheVariants as code
 use Rattle.js_evaluation.specs.declared.thrown.Thrown.{Thrown}
-use Rattle.js_evaluation.specs.State.{RunState, RunEnd, Stop, Does, fault, charges, with_heap, made, changed, make, make_scope, define, write_slot, spend, test_text, built_in_object, set_base, the_base, throw, throw_error, throw_type_error}
+use Rattle.js_evaluation.specs.State.{RunState, RunEnd, Stop, Does, fault, charges, with_heap, made, changed, make, make_scope, define, write_slot, spend, test_text, built_in_object, throw, throw_error, throw_type_error}
 use Rattle.js_law_evaluation.proofs.Asking.{KeepsToLookupNames, asking-ends, asking-halt, asking-next, asking-with_last, asking-reading, asking-changing, asking-if, asking-catching, asking-breaking, asking-turning, asking-returning}
 use Rattle.utf16_text.specs.declared.limits.TheConstants.{LONGEST_TEXT}
 
@@ -145,12 +145,6 @@ spend-ends text place = reads (λ s. changed-ends place (text_spent_of s.heap (l
 
 pub test_text-ends : (text : List ℕ) (place : Place) → Ends (test_text text place)
 test_text-ends text place = either (nat_lt LONGEST_TEXT (length text)) (fails code.StringTooLong place) (gives tt)
-
-pub set_base-ends : (v : Value) → Ends (set_base v)
-set_base-ends v = changes _
-
-pub the_base-ends : Ends the_base
-the_base-ends = reads (λ s. gives s.base)
 
 pub throw-ends : {A : Type 0} (v : Value) (place : Place) → Ends {A = A} (throw v place)
 throw-ends v place = stops _

@@ -17,12 +17,13 @@ use Rattle.js_evaluation.specs.declared.thrown.Thrown.{Thrown}
 use Rattle.js_evaluation.specs.State.{Does}
 use Rattle.js_evaluation.specs.Objects.{Context}
 use Rattle.js_evaluation.specs.Scoping.{Scoping}
-use Rattle.js_evaluation.specs.Parts.{Part, expression_part, statement_part, Within, visit, execute}
+use Rattle.js_evaluation.specs.Parts.{expression_part, statement_part, Within, visit, execute}
 use Rattle.js_evaluation.specs.Statements as def
 use Rattle.js_evaluation.specs.Statements.{nothing, is_here}
 use Rattle.js_law_evaluation.proofs.OfState.{Ends, gives, stops, fails, reads, ◌onto◌, ◌then◌, either, ends_with_last, catches, breaks, turns, charges-ends, write_slot-ends, spend-ends, throw-ends}
 use Rattle.js_law_evaluation.proofs.OfScoping.{WordsEnd}
-use Rattle.js_law_evaluation.proofs.OfExpressions.{write-ends, reference-ends}
+use Rattle.js_law_evaluation.proofs.OfParts.{WithinEnds}
+use Rattle.js_law_evaluation.proofs.OfExpressions.{write-ends}
 
 nothing-ends : Ends nothing
 nothing-ends = gives value.Undefined
@@ -46,14 +47,14 @@ charged_names-ends p [] = gives tt
 charged_names-ends p (name ∷ names) = charges-ends 1 p then spend-ends name p then charged_names-ends p names
 
 module _ {scoping : Scoping} (words : WordsEnd scoping) (functions : List FunctionTree)
-    {go : Within} (ends : (part : Part) → Ends (go part)) where
+    {go : Within} (ends : WithinEnds go) where
   -- ---- the parts within
 
   visit-ends : (cx : Context) (e : ExpressionTree) → Ends (visit go cx e)
-  visit-ends cx e = ends (expression_part cx e)
+  visit-ends cx e = ends.value (expression_part cx e)
 
   execute-ends : (cx : Context) (s : StatementTree) → Ends (execute go cx s)
-  execute-ends cx s = ends (statement_part cx s)
+  execute-ends cx s = ends.value (statement_part cx s)
 
   -- ---- blocks and variables
 
@@ -125,7 +126,7 @@ module _ {scoping : Scoping} (words : WordsEnd scoping) (functions : List Functi
 
   named_by-ends : (cx : Context) (p : Place) (target : TargetTree) (name : List ℕ)
       → Ends (def.named_by scoping functions go cx p target name)
-  named_by-ends cx p (target_value e) name = reference-ends words functions ends cx e onto (λ r. write-ends words cx r (value.Text name) p)
+  named_by-ends cx p (target_value e) name = ends.reference cx e onto (λ r. write-ends words cx r (value.Text name) p)
   named_by-ends cx p (target_declared x o) name = words.write_name cx x (value.Text name) p
 
   names_from-ends : (cx : Context) (p : Place) (target : TargetTree) (body : StatementTree) (object : Value) (names : List (List ℕ))

@@ -3,7 +3,7 @@ ghost use Rattle.js_evaluation.specs.Scoping.{by_names, by_slots};
 ghost use Rattle.js_law_evaluation.specs.Laws.{EvaluationHasOneEnd, RunsAskLookupNames, RunsHaveOneEnd};
 
 /// Each part of a script, with each number of parts that may still be opened, comes to one end, state, alerts and names
-/// asked, whatever comes after it.
+/// asked, whatever comes after it. So does each expression up to what it refers to.
 pub fn evaluation_has_one_end()
     ensures names { EvaluationHasOneEnd by_names }
     ensures slots { EvaluationHasOneEnd by_slots }

@@ -137,6 +137,12 @@ module _ {setting : ℕ → Setting} where
   either true h w = h
   either false h w = w
 
+  -- so where the two test equal values
+  pub either_same : {A : Type 0} {s : RunState} (b : Bool) {c : Bool} {p q f g : Does A} → c ≡ b → Agrees setting s p q
+      → Agrees setting s f g
+      → Agrees setting s (if c then p else f) (if b then q else g)
+  either_same b {p = p} {f = f} e h w = along (λ d. if d then p else f) (sym e) (either b h w)
+
   pub catches : {A : Type 0} {s : RunState} {p q : Does A} {f g : Cause → Does A} → Agrees setting s p q
       → ((v : Cause) → Agrees setting s (f v) (g v))
       → Agrees setting s (catching p f) (catching q g)

@@ -9,8 +9,8 @@ mod OfNativeWork
 mod OfPacNatives
 mod OfNatives
 mod OfNames
-mod OfParts
 mod OfReferences
+mod OfParts
 mod OfExpressions
 mod OfStatements
 mod OfVariables

@@ -136,7 +136,7 @@ module _ {setting : ℕ → Setting} (functions : List FunctionTree)
     (stand : (n : ℕ) (f : FunctionTree) → slice_get functions n ≡ Some f → FunctionRight setting (setting n).around f)
     (go go' : Within) (agrees : WithinAgrees setting go go') where
   calls_agree : CallsAgree setting (calls go) (calls go')
-  calls_agree z f this vs p = agrees z (call_part f this vs p) tt
+  calls_agree z f this vs p = agrees.value z (call_part f this vs p) tt
 
   -- ---- a function
 

@@ -1,5 +1,5 @@
 -- Expressions, where the parts that they visit agree.
-use Rattle.std.proofs.Common.{◌≡◌, refl, sym, ◌∙◌, ap, subst, map, length, zero, suc, ℕ, ◌+◌, pos, List, [], ◌∷◌, ◌++◌, Bool, true, false, if◌then◌else◌, Option, Some, None}
+use Rattle.std.proofs.Common.{◌≡◌, refl, sym, ◌∙◌, ap, subst, map, length, zero, suc, ℕ, ◌+◌, pos, List, [], ◌∷◌, ◌++◌, Bool, true, false, Option, Some, None}
 use Rattle.std.specs.Prelude.{option_map, neg_ℤ, ◌-ℤ◌, not, slice_get, codes}
 use Rattle.js_tree.specs.declared.place.Place.{Place}
 use Rattle.js_tree.specs.declared.bound.BoundName.{BoundName}
@@ -11,7 +11,7 @@ use Rattle.js_tree.specs.declared.operators.UnaryOp.TheVariants as unary
 use Rattle.js_tree.specs.declared.operators.UpdateForm.{UpdateForm}
 use Rattle.js_tree.specs.declared.operators.UpdateOp.{UpdateOp}
 use Rattle.js_tree.specs.Tree.{ExpressionTree, Number, Characters, True, False, Null, This, Name, Array, Object, Function, Numbered, Suffixed, New, Update, Unary, Chain, Conditional, Assign, Comma, absent, present, Expressions, no_expression, an_expression, Items, no_item, an_item, Properties, no_property, a_property, SuffixTree, a_member, an_index, a_call, Suffixes, no_suffix, a_suffix, Operands, no_operand, an_operand, FunctionTree, a_function}
-use Rattle.js_grammar.specs.Operators.{ends_in_part}
+use Rattle.js_grammar.specs.Operators.{ends_in_part, is_target}
 use Rattle.js_binding.specs.Scopes.{Scope, itself}
 use Rattle.js_binding.specs.Source.{unbound}
 use Rattle.js_binding.specs.Resolved.{around_function}
@@ -24,27 +24,24 @@ use Rattle.heap_values.specs.declared.value.Value.{Value}
 use Rattle.heap_values.specs.declared.value.Value.TheVariants as value
 use Rattle.object_heap.specs.Heap.{object_at, kind_in}
 use Rattle.js_convert.specs.Numeric.{truth_of}
-use Rattle.js_convert.specs.Texts.{text_of}
-use Rattle.run_trees.specs.Runs.{pure, ◌>>=◌, ◌>>◌}
-use Rattle.js_evaluation.specs.State.{RunState, charge, the_base, built_in_object, global_object}
-use Rattle.js_evaluation.specs.Objects.{Context, arity_of, closure, delete_property}
+use Rattle.js_evaluation.specs.State.{RunState, charge, built_in_object, global_object}
+use Rattle.js_evaluation.specs.Objects.{Context, arity_of, closure}
 use Rattle.js_evaluation.specs.Scoping.{by_names, by_slots}
-use Rattle.js_evaluation.specs.Parts.{expression_part, target_part, call_part, construct_part, Within, visit, visit_target, calls, suffix_place}
-use Rattle.js_evaluation.specs.Conversions.{text_methods, to_number, stepped, assigned_by, type_text}
+use Rattle.js_evaluation.specs.Parts.{expression_part, call_part, construct_part, Reference, Within, visit, refer, calls, suffix_place}
+use Rattle.js_evaluation.specs.Conversions.{assigned_by, type_text}
 use Rattle.js_evaluation.specs.NativeTable.{constructs, native_of}
 use Rattle.js_evaluation.specs.Expressions as def
-use Rattle.js_evaluation.specs.Expressions.{Reference}
 use Rattle.js_law_right.specs.EachIn.{EachInExpression, EachInExpressions, EachInItems, EachInProperties, EachInSuffix, EachInSuffixes, EachInOperands}
 use Rattle.js_law_right.specs.Right.{Setting, right, own_in}
 use Rattle.js_law_right.specs.Unbound.{expression_unbound, expressions_unbound, items_unbound, properties_unbound, suffix_unbound, suffixes_unbound, operands_unbound, function_unbound}
 use Rattle.js_law_names.proofs.Worlds.{Shape}
-use Rattle.js_law_names.proofs.Agreeing.{Agrees, along, gives, halts, sees, later, ◌onto◌, ◌then◌, either}
-use Rattle.js_law_names.proofs.OfState.{charges-agrees, make-agrees, define-agrees, write_slot-agrees, test_text-agrees, set_base-agrees, the_base-agrees, throw_type_error-agrees}
-use Rattle.js_law_names.proofs.OfObjects.{get-agrees, put-agrees, test_base-agrees, delete_property-agrees}
-use Rattle.js_law_names.proofs.OfConversions.{CallsAgree, call_value-agrees, to_number-agrees, to_primitive-agrees, to_bits-agrees, binary-agrees, stepped-agrees}
-use Rattle.js_law_names.proofs.OfNames.{closes, in_new_scope, reads_name, reads_or_undefined, deletes_name}
+use Rattle.js_law_names.proofs.Agreeing.{Agrees, along, gives, halts, sees, later, ◌onto◌, ◌then◌, either, either_same}
+use Rattle.js_law_names.proofs.OfState.{charges-agrees, make-agrees, define-agrees, write_slot-agrees, test_text-agrees, throw_type_error-agrees}
+use Rattle.js_law_names.proofs.OfObjects.{put-agrees, test_base-agrees}
+use Rattle.js_law_names.proofs.OfConversions.{CallsAgree, call_value-agrees, to_text-agrees, to_number-agrees, to_bits-agrees, binary-agrees, stepped-agrees}
+use Rattle.js_law_names.proofs.OfNames.{closes, in_new_scope, reads_name}
+use Rattle.js_law_names.proofs.OfReferences.{SameReference, same_name, same_property, read-agrees, read_or_undefined-agrees, write-agrees, delete-agrees, gives_with_this, ReferencesAgree, refers_to, refers_to_nothing, ◌referring◌, ◌onto_reference◌}
 use Rattle.js_law_names.proofs.OfParts.{bare, WithinAgrees, suffix_stays}
-use Rattle.js_law_names.proofs.OfReferences.{reference_unbound, ReferenceRight, read-agrees, write-agrees, refers}
 
 pub get_map : (functions : List FunctionTree) (n : ℕ)
     → slice_get (bare functions) n ≡ option_map function_unbound (slice_get functions n)
@@ -78,19 +75,27 @@ part_same b (a_suffix (a_member p x) ss) = part_same true ss
 part_same b (a_suffix (an_index p e) ss) = part_same true ss
 part_same b (a_suffix (a_call p es) ss) = part_same false ss
 
+target_same : (e : ExpressionTree) → is_target (expression_unbound e) ≡ is_target e
+target_same (Suffixed p e ss) = part_same false ss
+target_same e = refl
+
+property_same : (e : ExpressionTree) → def.refers_to_property (expression_unbound e) ≡ def.refers_to_property e
+property_same (Suffixed p e ss) = part_same false ss
+property_same e = refl
+
 module _ {setting : ℕ → Setting} (functions : List FunctionTree) (owns : (n : ℕ) → own_in (slice_get functions n) ≡ (setting n).own)
     (go go' : Within) (agrees : WithinAgrees setting go go') where
   calls_agree : CallsAgree setting (calls go) (calls go')
-  calls_agree z f this vs p = agrees z (call_part f this vs p) tt
+  calls_agree z f this vs p = agrees.value z (call_part f this vs p) tt
 
   module _ (z : RunState) (cx : Context) (xs : List Scope) (shape : Shape z.names z.heap.scopes cx.scope xs) where
     visits : (e : ExpressionTree) → EachInExpression (right setting) xs e
         → Agrees setting z (visit go cx (expression_unbound e)) (visit go' cx e)
-    visits e r = agrees z (expression_part cx e) (xs, shape, r)
+    visits e r = agrees.value z (expression_part cx e) (xs, shape, r)
 
-    targets : (e : ExpressionTree) → EachInExpression (right setting) xs e
-        → Agrees setting z (visit_target go cx (expression_unbound e)) (visit_target go' cx e)
-    targets e r = agrees z (target_part cx e) (xs, shape, r)
+    refers : (e : ExpressionTree) → EachInExpression (right setting) xs e
+        → ReferencesAgree setting xs z (refer go cx (expression_unbound e)) (refer go' cx e)
+    refers e r = agrees.reference z cx xs shape e r
 
     -- ---- literals
 
@@ -159,10 +164,22 @@ module _ {setting : ℕ → Setting} (functions : List FunctionTree) (owns : (n 
     arguments_from-agrees done no_expression r = gives done
     arguments_from-agrees done (an_expression e es) r = visits e r.0 onto (λ v. arguments_from-agrees (done ++ v ∷ []) es r.1)
 
-    key_of-agrees : (base : Value) (e : ExpressionTree) (p : Place) → EachInExpression (right setting) xs e
-        → Agrees setting z (def.key_of by_names (bare functions) go cx base (expression_unbound e) p)
-        (def.key_of by_slots functions go' cx base e p)
-    key_of-agrees base e p r = visits e r onto (λ v. test_base-agrees base p then to_primitive-agrees (calls go) (calls go') calls_agree text_methods v p)
+    name_under-agrees : (base : Value) (e : ExpressionTree) (p : Place) → EachInExpression (right setting) xs e
+        → Agrees setting z (def.name_under by_names (bare functions) go cx base (expression_unbound e) p)
+        (def.name_under by_slots functions go' cx base e p)
+    name_under-agrees base e p r = visits e r onto (λ v. test_base-agrees base p then to_text-agrees (calls go) (calls go') calls_agree v p)
+
+    referred_at-agrees : (v : Value) (s : SuffixTree) → EachInSuffix (right setting) xs s
+        → ReferencesAgree setting xs z (def.referred_at by_names (bare functions) go cx v (suffix_unbound s))
+        (def.referred_at by_slots functions go' cx v s)
+    referred_at-agrees v (a_member p name) r = test_base-agrees v p referring (λ _. refers_to (same_property p v name))
+    referred_at-agrees v (an_index p e) r = name_under-agrees v e p r referring (λ name. refers_to (same_property p v name))
+    referred_at-agrees v (a_call p es) r = refers_to_nothing
+
+    read_with_this-agrees : {x y : Reference} → SameReference xs x y
+        → Agrees setting z (def.read_with_this by_names (bare functions) go cx x)
+        (def.read_with_this by_slots functions go' cx y)
+    read_with_this-agrees same = read-agrees z cx xs shape same onto (λ v. gives_with_this same v)
 
     suffix_charges : (s : SuffixTree) → Agrees setting z (charge (suffix_place (suffix_unbound s))) (charge (suffix_place s))
     suffix_charges s = along charge (suffix_stays s) (charges-agrees 1 (suffix_place s))
@@ -170,59 +187,54 @@ module _ {setting : ℕ → Setting} (functions : List FunctionTree) (owns : (n 
     suffix_at-agrees : (this v : Value) (s : SuffixTree) → EachInSuffix (right setting) xs s
         → Agrees setting z (def.suffix_at by_names (bare functions) go cx this v (suffix_unbound s))
         (def.suffix_at by_slots functions go' cx this v s)
-    suffix_at-agrees this v (a_member p name) r = test_base-agrees v p then get-agrees v name p onto (λ w. gives (v, w))
-    suffix_at-agrees this v (an_index p e) r = key_of-agrees v e p r onto (λ key. get-agrees v (text_of key) p onto (λ w. gives (v, w)))
     suffix_at-agrees this v (a_call p es) r =
         arguments_from-agrees [] es r onto (λ vs. call_value-agrees (calls go) (calls go') calls_agree v this vs p onto (λ w. gives (global_object, w)))
+    suffix_at-agrees this v s r = referred_at-agrees v s r onto_reference (λ x y same. read_with_this-agrees same)
 
     suffixes_from-agrees : (this v : Value) (ss : Suffixes) → EachInSuffixes (right setting) xs ss
         → Agrees setting z (def.suffixes_from by_names (bare functions) go cx this v (suffixes_unbound ss))
         (def.suffixes_from by_slots functions go' cx this v ss)
-    suffixes_from-agrees this v no_suffix r = set_base-agrees this then gives v
+    suffixes_from-agrees this v no_suffix r = gives v
     suffixes_from-agrees this v (a_suffix s ss) r =
         suffix_charges s then suffix_at-agrees this v s r.0 onto (λ x. suffixes_from-agrees x.0 x.1 ss r.1)
 
-    this_behind-agrees : (e : ExpressionTree) → Agrees setting z (def.this_behind (expression_unbound e)) (def.this_behind e)
-    this_behind-agrees (Suffixed p e ss) = the_base-agrees
-    this_behind-agrees e = gives global_object
+    with_this-agrees : (e : ExpressionTree) → EachInExpression (right setting) xs e
+        → Agrees setting z (def.with_this by_names (bare functions) go cx (expression_unbound e))
+        (def.with_this by_slots functions go' cx e)
+    with_this-agrees e r = either_same (def.refers_to_property e) (property_same e)
+        (refers e r onto_reference (λ x y same. read_with_this-agrees same))
+        (visits e r onto (λ v. gives (global_object, v)))
 
     suffixed-agrees : (first : ExpressionTree) (ss : Suffixes) → EachInExpression (right setting) xs first
         → EachInSuffixes (right setting) xs ss
         → Agrees setting z (def.suffixed by_names (bare functions) go cx (expression_unbound first) (suffixes_unbound ss))
         (def.suffixed by_slots functions go' cx first ss)
-    suffixed-agrees first ss r q = visits first r onto (λ v. this_behind-agrees first onto (λ this. suffixes_from-agrees this v ss q))
+    suffixed-agrees first ss r q = with_this-agrees first r onto (λ x. suffixes_from-agrees x.0 x.1 ss q)
 
-    -- ---- targets of writes
-
-    last_at-agrees : (v : Value) (s : SuffixTree) → EachInSuffix (right setting) xs s
-        → Agrees setting z (def.last_at by_names (bare functions) go cx v (suffix_unbound s))
-        (def.last_at by_slots functions go' cx v s)
-    last_at-agrees v (a_member p name) r = test_base-agrees v p then set_base-agrees v then gives (value.Text name)
-    last_at-agrees v (an_index p e) r = key_of-agrees v e p r onto (λ key. set_base-agrees v then gives key)
-    last_at-agrees v (a_call p es) r = gives value.Undefined
+    -- ---- what is referred to
 
     target_suffixes-agrees : (this v : Value) (ss : Suffixes) → EachInSuffixes (right setting) xs ss
-        → Agrees setting z (def.target_suffixes by_names (bare functions) go cx this v (suffixes_unbound ss))
+        → ReferencesAgree setting xs z (def.target_suffixes by_names (bare functions) go cx this v (suffixes_unbound ss))
         (def.target_suffixes by_slots functions go' cx this v ss)
-    target_suffixes-agrees this v no_suffix r = gives value.Undefined
-    target_suffixes-agrees this v (a_suffix s no_suffix) r = suffix_charges s then last_at-agrees v s r.0
+    target_suffixes-agrees this v no_suffix r = refers_to_nothing
+    target_suffixes-agrees this v (a_suffix s no_suffix) r = suffix_charges s referring (λ _. referred_at-agrees v s r.0)
     target_suffixes-agrees this v (a_suffix s (a_suffix t ss)) r =
-        suffix_charges s then suffix_at-agrees this v s r.0 onto (λ x. target_suffixes-agrees x.0 x.1 (a_suffix t ss) r.1)
+        suffix_charges s then suffix_at-agrees this v s r.0 referring (λ x. target_suffixes-agrees x.0 x.1 (a_suffix t ss) r.1)
 
     pub target_node-agrees : (e : ExpressionTree) → EachInExpression (right setting) xs e
-        → Agrees setting z (def.target_node by_names (bare functions) go cx (expression_unbound e))
+        → ReferencesAgree setting xs z (def.target_node by_names (bare functions) go cx (expression_unbound e))
         (def.target_node by_slots functions go' cx e)
-    target_node-agrees (Suffixed p first ss) r =
-        visits first r.0 onto (λ v. this_behind-agrees first onto (λ this. target_suffixes-agrees this v ss r.1))
-    target_node-agrees e r = gives value.Undefined
+    target_node-agrees (Name p x) r = refers_to (same_name p x r)
+    target_node-agrees (Suffixed p first ss) r = with_this-agrees first r.0 referring (λ x. target_suffixes-agrees x.0 x.1 ss r.1)
+    target_node-agrees e r = refers_to_nothing
 
     -- ---- `new`
 
     constructed_by-agrees : (k : Kind) (id : ObjectId) (vs : List Value) (p : Place)
         → Agrees setting z (def.constructed_by by_names (bare functions) go k id vs p)
         (def.constructed_by by_slots functions go' k id vs p)
-    constructed_by-agrees (kind.Function f scope) id vs p = agrees z (construct_part id vs p) tt
-    constructed_by-agrees (kind.Native n) id vs p = either (constructs (native_of n)) (agrees z (construct_part id vs p) tt) (halts _)
+    constructed_by-agrees (kind.Function f scope) id vs p = agrees.value z (construct_part id vs p) tt
+    constructed_by-agrees (kind.Native n) id vs p = either (constructs (native_of n)) (agrees.value z (construct_part id vs p) tt) (halts _)
     constructed_by-agrees k id vs p = throw_type_error-agrees (codes "not a constructor") p
 
     constructed-agrees : (v : Value) (vs : List Value) (p : Place)
@@ -242,29 +254,22 @@ module _ {setting : ℕ → Setting} (functions : List FunctionTree) (owns : (n 
     updated-agrees : (p : Place) (f : UpdateForm) (o : UpdateOp) (e : ExpressionTree) → EachInExpression (right setting) xs e
         → Agrees setting z (def.updated by_names (bare functions) go cx p f o (expression_unbound e))
         (def.updated by_slots functions go' cx p f o e)
-    updated-agrees p f o e r = refers functions go go' agrees z cx xs shape e
-        (λ x. def.read by_names cx x >>= (λ old. to_number (calls go) old p >>= (λ n. stepped (calls go) o n p >>= (λ m.
-        def.write by_names cx x (value.Number m) p >> pure (def.given_by f (value.Number n) (value.Number m)))))) _ r
-        (λ x q. read-agrees z cx xs shape x q onto (λ old. to_number-agrees (calls go) (calls go') calls_agree old p
-        onto (λ n. stepped-agrees (calls go) (calls go') o n p onto (λ m. write-agrees z cx xs shape x (value.Number m) p q
+    updated-agrees p f o e r = refers e r onto_reference (λ x y same. read-agrees z cx xs shape same
+        onto (λ old. to_number-agrees (calls go) (calls go') calls_agree old p
+        onto (λ n. stepped-agrees (calls go) (calls go') o n p onto (λ m. write-agrees z cx xs shape same (value.Number m) p
         then gives (def.given_by f (value.Number n) (value.Number m))))))
 
     deleted-agrees : (p : Place) (e : ExpressionTree) → EachInExpression (right setting) xs e
         → Agrees setting z (def.deleted by_names (bare functions) go cx p (expression_unbound e))
         (def.deleted by_slots functions go' cx p e)
-    deleted-agrees p (Name q x) r = targets (Name q x) r then deletes_name cx xs x p shape r
-    deleted-agrees p (Suffixed q e ss) r =
-        along (λ b. if b
-        then (visit_target go cx (expression_unbound (Suffixed q e ss)) >>= (λ key. the_base >>= (λ base. delete_property base (text_of key) p)))
-        else (visit go cx (expression_unbound (Suffixed q e ss)) >> pure (value.Bool true))) (sym (part_same false ss))
-        (either (ends_in_part false ss) (targets (Suffixed q e ss) r onto (λ key. the_base-agrees onto (λ base. delete_property-agrees base (text_of key) p)))
-        (visits (Suffixed q e ss) r then gives (value.Bool true)))
-    deleted-agrees p e r = visits e r then gives (value.Bool true)
+    deleted-agrees p e r = either_same (is_target e) (target_same e)
+        (refers e r onto_reference (λ x y same. delete-agrees z cx xs shape same p))
+        (visits e r then gives (value.Bool true))
 
     type_of-agrees : (e : ExpressionTree) → EachInExpression (right setting) xs e
         → Agrees setting z (def.type_of by_names (bare functions) go cx (expression_unbound e))
         (def.type_of by_slots functions go' cx e)
-    type_of-agrees (Name p x) r = targets (Name p x) r then reads_or_undefined cx xs x p shape r
+    type_of-agrees (Name p x) r = refers (Name p x) r onto_reference (λ x y same. read_or_undefined-agrees z cx xs shape same)
     type_of-agrees e r = visits e r
 
     unary_value-agrees : (p : Place) (o : UnaryOp) (e : ExpressionTree) → EachInExpression (right setting) xs e
@@ -307,21 +312,20 @@ module _ {setting : ℕ → Setting} (functions : List FunctionTree) (owns : (n 
         (def.conditional by_slots functions go' cx c a b)
     conditional-agrees c a b r q s = visits c r onto (λ v. either (truth_of v) (visits a q) (visits b s))
 
-    assigned_with-agrees : (p : Place) (x : Reference) → ReferenceRight xs x → (o : Option BinaryOp) (e : ExpressionTree)
+    assigned_with-agrees : (p : Place) {x y : Reference} → SameReference xs x y → (o : Option BinaryOp) (e : ExpressionTree)
         → EachInExpression (right setting) xs e
-        → Agrees setting z (def.assigned_with by_names (bare functions) go cx p (reference_unbound x) o (expression_unbound e))
-        (def.assigned_with by_slots functions go' cx p x o e)
-    assigned_with-agrees p x q None e r = visits e r
-    assigned_with-agrees p x q (Some o) e r =
-        read-agrees z cx xs shape x q onto (λ old. visits e r onto (λ v. binary-agrees (calls go) (calls go') calls_agree o old v p))
+        → Agrees setting z (def.assigned_with by_names (bare functions) go cx p x o (expression_unbound e))
+        (def.assigned_with by_slots functions go' cx p y o e)
+    assigned_with-agrees p same None e r = visits e r
+    assigned_with-agrees p same (Some o) e r =
+        read-agrees z cx xs shape same onto (λ old. visits e r onto (λ v. binary-agrees (calls go) (calls go') calls_agree o old v p))
 
     assigned-agrees : (p : Place) (e : ExpressionTree) (o : AssignOp) (v : ExpressionTree)
         → EachInExpression (right setting) xs e → EachInExpression (right setting) xs v
         → Agrees setting z (def.assigned by_names (bare functions) go cx p (expression_unbound e) o (expression_unbound v))
         (def.assigned by_slots functions go' cx p e o v)
-    assigned-agrees p e o v r s = refers functions go go' agrees z cx xs shape e
-        (λ x. def.assigned_with by_names (bare functions) go cx p x (assigned_by o) (expression_unbound v) >>= (λ w. def.write by_names cx x w p >> pure w)) _ r
-        (λ x q. assigned_with-agrees p x q (assigned_by o) v s onto (λ w. write-agrees z cx xs shape x w p q then gives w))
+    assigned-agrees p e o v r s = refers e r onto_reference (λ x y same. assigned_with-agrees p same (assigned_by o) v s
+        onto (λ w. write-agrees z cx xs shape same w p then gives w))
 
     comma_from-agrees : (v : Value) (es : Expressions) → EachInExpressions (right setting) xs es
         → Agrees setting z (def.comma_from by_names (bare functions) go cx v (expressions_unbound es))

@@ -18,7 +18,7 @@ use Rattle.object_heap.specs.Heap.{kind_in, made_of, stored, text_spent_of}
 use Rattle.object_heap.specs.declared.limits.TheConstants.{MOST_TEXT}
 use Rattle.run_trees.specs.Runs.{changing}
 use Rattle.js_evaluation.specs.declared.fault.FaultCode.TheVariants as fault_code
-use Rattle.js_evaluation.specs.State.{RunState, charges, made, changed, make, define, write_slot, spend, test_text, built_in_object, set_base, the_base, throw, throw_error, throw_type_error}
+use Rattle.js_evaluation.specs.State.{RunState, charges, made, changed, make, define, write_slot, spend, test_text, built_in_object, throw, throw_error, throw_type_error}
 use Rattle.js_law_right.specs.Right.{Setting}
 use Rattle.js_law_names.proofs.Steady.{Leads, itself, beside, made_leads, stored_steady, leads_if}
 use Rattle.js_law_names.proofs.Worlds.{Later, Fine, shape_later, written_kept, length_with, kinds_with}
@@ -76,12 +76,6 @@ module _ {setting : ℕ → Setting} where
   pub test_text-agrees : {z : RunState} (text : List ℕ) (place : Place)
       → Agrees setting z (test_text text place) (test_text text place)
   test_text-agrees text place = either (nat_lt LONGEST_TEXT (length text)) (fails fault_code.StringTooLong place) (gives tt)
-
-  pub set_base-agrees : {z : RunState} (v : Value) → Agrees setting z (set_base v) (set_base v)
-  set_base-agrees v = changes _ _ (λ t f. (record { kept = λ i x around h. h }, record { counts = f.counts; closures = f.closures }, refl))
-
-  pub the_base-agrees : {z : RunState} → Agrees setting z the_base the_base
-  the_base-agrees = sees (λ z _l _f. gives z.base) (λ z. refl)
 
   pub throw-agrees : {A : Type 0} {z : RunState} (v : Value) (place : Place)
       → Agrees setting {A = A} z (throw v place) (throw v place)

@@ -18,7 +18,6 @@ use Rattle.js_evaluation.specs.State.{RunState}
 use Rattle.js_evaluation.specs.Objects.{Context}
 use Rattle.js_evaluation.specs.Scoping.{by_names, by_slots}
 use Rattle.js_evaluation.specs.Parts.{expression_part, statement_part, Within, visit, execute}
-use Rattle.js_evaluation.specs.Expressions.{write}
 use Rattle.js_evaluation.specs.Statements as def
 use Rattle.js_evaluation.specs.Statements.{is_here, is_found}
 use Rattle.js_law_right.specs.EachIn.{EachInExpression, EachInOptional, EachInStatement, EachInOtherwise, EachInStatements, EachInDeclarations, EachInBranches, EachInStart, EachInTarget, EachInClauses, EachInHandler}
@@ -28,18 +27,18 @@ use Rattle.js_law_names.proofs.Worlds.{Shape}
 use Rattle.js_law_names.proofs.Agreeing.{Agrees, gives, stops, fails, sees, later, ◌onto◌, ◌then◌, either, lasts, catches, breaks, turns_on}
 use Rattle.js_law_names.proofs.OfState.{charges-agrees, write_slot-agrees, spend-agrees, throw-agrees}
 use Rattle.js_law_names.proofs.OfNames.{writes_name, in_new_scope}
+use Rattle.js_law_names.proofs.OfReferences.{write-agrees, ◌onto_reference◌}
 use Rattle.js_law_names.proofs.OfParts.{bare, WithinAgrees}
-use Rattle.js_law_names.proofs.OfReferences.{write-agrees, refers}
 
 module _ {setting : ℕ → Setting} (functions : List FunctionTree) (go go' : Within) (agrees : WithinAgrees setting go go')
     (z : RunState) (cx : Context) (xs : List Scope) (shape : Shape z.names z.heap.scopes cx.scope xs) where
   visits : (e : ExpressionTree) → EachInExpression (right setting) xs e
       → Agrees setting z (visit go cx (expression_unbound e)) (visit go' cx e)
-  visits e r = agrees z (expression_part cx e) (xs, shape, r)
+  visits e r = agrees.value z (expression_part cx e) (xs, shape, r)
 
   executes : (s : StatementTree) → EachInStatement (right setting) xs s
       → Agrees setting z (execute go cx (statement_unbound s)) (execute go' cx s)
-  executes s r = agrees z (statement_part cx s) (xs, shape, r)
+  executes s r = agrees.value z (statement_part cx s) (xs, shape, r)
 
   nothing_comes : Agrees setting z def.nothing def.nothing
   nothing_comes = gives value.Undefined
@@ -142,7 +141,7 @@ module _ {setting : ℕ → Setting} (functions : List FunctionTree) (go go' : W
       → Agrees setting z (def.named_by by_names (bare functions) go cx p (target_unbound target) name)
       (def.named_by by_slots functions go' cx p target name)
   named_by-agrees p (target_value e) name r =
-      refers functions go go' agrees z cx xs shape e (λ x. write by_names cx x (value.Text name) p) _ r (λ x q. write-agrees z cx xs shape x (value.Text name) p q)
+      agrees.reference z cx xs shape e r onto_reference (λ x y same. write-agrees z cx xs shape same (value.Text name) p)
   named_by-agrees p (target_declared x o) name r = writes_name cx xs x p shape r.0 (value.Text name)
 
   is_listed-agrees : (v : Value) (name : List ℕ) → Agrees setting z (def.is_listed v name) (def.is_listed v name)
@@ -226,7 +225,7 @@ module _ {setting : ℕ → Setting} (functions : List FunctionTree) (go go' : W
       (def.handled by_slots functions go' cx p x block thrown)
   handled-agrees p x block thrown r = in_new_scope (named (x.name ∷ [])) cx.scope xs p shape (λ u i l inner.
       write_slot-agrees i 0 thrown.value
-      then agrees u (statement_part (record { scope = i; this = cx.this }) block) (named (x.name ∷ []) ∷ xs, inner, r))
+      then agrees.value u (statement_part (record { scope = i; this = cx.this }) block) (named (x.name ∷ []) ∷ xs, inner, r))
 
   -- the block with its handler
   guarded-agrees : (p : Place) (block : StatementTree) (handler : CatchTree) → EachInStatement (right setting) xs block

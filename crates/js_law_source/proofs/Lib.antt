@@ -1,1 +1,3 @@
+mod Back
+mod BackTrees
 mod ReadScripts

@@ -15,10 +15,14 @@ use Rattle.js_evaluation.specs.State.{RunState, RunEnd, Faults, Stop, Does, Afte
 use Rattle.js_evaluation.specs.Objects.{Context}
 use Rattle.js_evaluation.specs.PacNatives.{pac_work}
 use Rattle.js_evaluation.specs.Parts as def
-use Rattle.js_evaluation.specs.Evaluation.{outer_scope, node, evaluation}
+use Rattle.js_evaluation.specs.Expressions.{expression_node, target_node}
+use Rattle.js_evaluation.specs.Statements.{statement_node}
+use Rattle.js_evaluation.specs.Entries.{call_node, construct_node, load_node}
+use Rattle.js_evaluation.specs.Evaluation.{outer_scope, evaluation}
 use Rattle.js_frames.specs.declared.frame.Frame.{Frame}
-use Rattle.js_frames.specs.Parts.{context_of}
-use Rattle.js_evaluation.specs.Parts.{Within, part_place, visit, visit_target}
+use Rattle.js_frames.specs.Parts.{context_of, reference_of}
+use Rattle.js_frames.specs.Rests.{after_reference, DoesEither, giving, referring}
+use Rattle.js_evaluation.specs.Parts.{Reference, Within, expression_place, statement_place, outside, visit, refer}
 use Rattle.js_frames.specs.RestOf.{rest_of_frame, room, within, rest_of}
 use Rattle.heap_steps.specs.declared.halt.Halt.{Halt}
 use Rattle.heap_steps.specs.declared.halt.Halt.TheVariants as halt
@@ -34,7 +38,7 @@ abbrev pub functions_of : Machine → List FunctionTree
 functions_of m = map function_of m.functions.now
 
 abbrev pub beside_of : State → Beside
-beside_of s = record { base = s.base; now = s.now; settings = s.settings }
+beside_of s = record { now = s.now; settings = s.settings }
 
 abbrev pub run_state : State → RunState
 run_state s = state_with s.heap s.fuel (beside_of s)
@@ -51,37 +55,47 @@ at m rule = rule (functions_of m) (inner m) (context_of m.context)
 abbrev pub anywhere : {A : Type 0} → Machine → (List FunctionTree → Within → A) → A
 anywhere m rule = rule (functions_of m) (inner m)
 
--- an expression within that node, as it is read and as the target of a write
+-- an expression within that node, up to its value and up to its reference
 abbrev pub visited : Machine → ExpressionTree → Does Value
 visited m e = visit (inner m) (context_of m.context) e
 
-abbrev pub visited_target : Machine → ExpressionTree → Does Value
-visited_target m e = visit_target (inner m) (context_of m.context) e
+abbrev pub visited_target : Machine → ExpressionTree → Does Reference
+visited_target m e = refer (inner m) (context_of m.context) e
 
--- A part, and then what the open parts make of its end; last: what comes after the outermost.
-abbrev pub left : AfterValue → Machine → Does Value → RunTree RunEnd
+-- A part, and then what the open parts make of what it gives; last: what comes after the outermost.
+abbrev pub left : AfterValue → Machine → DoesEither → RunTree RunEnd
 left last m part = part (rest_of (functions_of m) last m.frames) (run_state m.state)
 
 -- ---- what is to be done
 
--- a part as evaluation has it; cx: where the code runs that begins it
-abbrev pub part_of : Context → Part → def.Part
-part_of cx (part.Expression e) = def.expression_part cx e.now
-part_of cx (part.Target e) = def.target_part cx e.now
-part_of cx (part.Statement s) = def.statement_part cx s.now
-part_of cx (part.Declare place all) = def.statement_part cx (Var place (declarations_of all.now))
-part_of cx (part.Call f this vs place) = def.call_part f this vs place
-part_of cx (part.Construct f vs place) = def.construct_part f vs place
-part_of cx (part.Load body) = def.load_part outer_scope (statements_of body.now)
+-- a part, by what evaluation makes of parts; cx: where the code runs that begins it
+abbrev pub begun : Within → Context → Part → DoesEither
+begun go cx (part.Expression e) = giving (go.value (def.expression_part cx e.now))
+begun go cx (part.Target e) = referring (go.reference cx e.now)
+begun go cx (part.Statement s) = giving (go.value (def.statement_part cx s.now))
+begun go cx (part.Declare place all) = giving (go.value (def.statement_part cx (Var place (declarations_of all.now))))
+begun go cx (part.Call f this vs place) = giving (go.value (def.call_part f this vs place))
+begun go cx (part.Construct f vs place) = giving (go.value (def.construct_part f vs place))
+begun go cx (part.Load body) = giving (go.value (def.load_part outer_scope (statements_of body.now)))
 
-abbrev pub begun : Within → Context → Now → Does Value
-begun go cx (now.Begin p) = go (part_of cx p)
-begun go cx (now.Back result) = ends result
-begun go cx (now.Host f vs place) = pac_work f vs place
+abbrev pub part_place : Part → Place
+part_place (part.Expression e) = expression_place e.now
+part_place (part.Target e) = expression_place e.now
+part_place (part.Statement s) = statement_place s.now
+part_place (part.Declare place all) = place
+part_place (part.Call f this vs place) = place
+part_place (part.Construct f vs place) = place
+part_place (part.Load body) = outside
+
+abbrev pub doing : Within → Context → Now → DoesEither
+doing go cx (now.Begin p) = begun go cx p
+doing go cx (now.Back result) = giving (ends result)
+doing go cx (now.Refers r) = λ rest. rest.referred (reference_of r)
+doing go cx (now.Host f vs place) = giving (pac_work f vs place)
 
 -- what is to be done, and then what the open parts make of it
 abbrev pub present : AfterValue → Machine → Now → RunTree RunEnd
-present last m what = left last m (begun (evaluation by_slots (functions_of m) (room m.frames)) (context_of m.context) what)
+present last m what = left last m (doing (evaluation by_slots (functions_of m) (room m.frames)) (context_of m.context) what)
 
 -- ---- steps
 
@@ -97,6 +111,7 @@ Goes last tree (Err halt.Memory) m = Unit {0}
 abbrev pub waits : Now → ℕ
 waits (now.Begin p) = 0
 waits (now.Back result) = 1
+waits (now.Refers r) = 1
 waits (now.Host f vs place) = 2
 
 -- each visit takes fuel, and each end closes a part
@@ -111,49 +126,70 @@ Light bound (Err (halt.LeftOut name place)) m = Unit {0}
 Light bound (Err halt.Memory) m = Unit {0}
 
 -- The machine goes on from this part as evaluation does, whatever comes after the outermost part.
-pub record Moves (part : Does Value) (m : Machine) (r : Result Now Halt) (m' : Machine) : Type 0 where
+pub record Leads (part : DoesEither) (m : Machine) (r : Result Now Halt) (m' : Machine) : Type 0 where
   pub goes : (last : AfterValue) → Goes last (left last m part) r m'
   pub light : Light (weight m + 3) r m'
+
+-- the same from a part that gives a value, and from one that refers to something
+abbrev pub Moves : Does Value → Machine → Result Now Halt → Machine → Type 0
+Moves part = Leads (giving part)
+
+abbrev pub Refers : Does Reference → Machine → Result Now Halt → Machine → Type 0
+Refers part = Leads (referring part)
 
 -- ---- opening a part
 
 module _ (functions : List FunctionTree) (go : Within) (cx : Context) where
   -- a part within, with what is left then of the part around
-  abbrev pub entered : def.Part → Frame → Does Value
-  entered within frame = λ after. go within (rest_of_frame functions go cx frame after)
+  abbrev pub entered : def.Part → Frame → DoesEither
+  entered part frame = λ rest. go.value part (rest_of_frame functions go cx frame rest).given
 
-  abbrev pub evaluated : ExpressionTree → Frame → Does Value
+  abbrev pub evaluated : ExpressionTree → Frame → DoesEither
   evaluated e frame = entered (def.expression_part cx e) frame
 
-  abbrev pub targeted : ExpressionTree → Frame → Does Value
-  targeted e frame = entered (def.target_part cx e) frame
+  abbrev pub targeted : ExpressionTree → Frame → DoesEither
+  targeted e frame = λ rest. go.reference cx e (after_reference (rest_of_frame functions go cx frame rest))
 
-  abbrev pub executed : StatementTree → Frame → Does Value
+  abbrev pub executed : StatementTree → Frame → DoesEither
   executed s frame = entered (def.statement_part cx s) frame
 
-  abbrev pub executed_in : ScopeId → StatementTree → Frame → Does Value
-  executed_in scope s frame = λ after.
-      go (def.statement_part (record { scope = scope; this = cx.this }) s) (rest_of_frame functions go cx frame after)
+  abbrev pub executed_in : ScopeId → StatementTree → Frame → DoesEither
+  executed_in scope s frame = λ rest.
+      go.value (def.statement_part (record { scope = scope; this = cx.this }) s) (rest_of_frame functions go cx frame rest).given
 
-  abbrev pub declared : Place → List Declared → Frame → Does Value
+  abbrev pub declared : Place → List Declared → Frame → DoesEither
   declared place all frame = entered (def.statement_part cx (Var place (declarations_of all))) frame
 
-  abbrev pub called : ObjectId → Value → List Value → Place → Frame → Does Value
+  abbrev pub called : ObjectId → Value → List Value → Place → Frame → DoesEither
   called f this vs place frame = entered (def.call_part f this vs place) frame
 
-  abbrev pub constructed : ObjectId → List Value → Place → Frame → Does Value
+  abbrev pub constructed : ObjectId → List Value → Place → Frame → DoesEither
   constructed f vs place frame = entered (def.construct_part f vs place) frame
 
   -- a part within ends while this one is open
-  abbrev pub resumed : Frame → Result Value Stop → Does Value
-  resumed frame result = λ after. rest_of_frame functions go cx frame after result
+  abbrev pub resumed : Frame → Result Value Stop → DoesEither
+  resumed frame result = λ rest. (rest_of_frame functions go cx frame rest).given result
+
+  -- an expression within refers to something
+  abbrev pub reached : Frame → Reference → DoesEither
+  reached frame r = λ rest. (rest_of_frame functions go cx frame rest).referred r
 
 -- ---- beginning a part
 
+-- its rule
+abbrev pub rule_of : List FunctionTree → Within → Context → Part → DoesEither
+rule_of functions go cx (part.Expression e) = giving (expression_node by_slots functions go cx e.now)
+rule_of functions go cx (part.Target e) = referring (target_node by_slots functions go cx e.now)
+rule_of functions go cx (part.Statement s) = giving (statement_node by_slots functions go cx s.now)
+rule_of functions go cx (part.Declare place all) = giving (statement_node by_slots functions go cx (Var place (declarations_of all.now)))
+rule_of functions go cx (part.Call f this vs place) = giving (call_node by_slots functions go f this vs place)
+rule_of functions go cx (part.Construct f vs place) = giving (construct_node by_slots functions go f vs place)
+rule_of functions go cx (part.Load body) = giving (load_node by_slots functions go outer_scope (statements_of body.now) outside)
+
 -- the part is charged and begun
 pub record Descended (place : Place) (m m' : Machine) : Type 0 where
-  pub goes_in : (last : AfterValue) (begins : def.Part) → part_place begins ≡ place
-      → left last m (evaluation by_slots (functions_of m) (room m.frames) begins) ≡ left last m' (node by_slots (functions_of m') (inner m') begins)
+  pub goes_in : (last : AfterValue) (cx : Context) (p : Part) → part_place p ≡ place
+      → left last m (begun (evaluation by_slots (functions_of m) (room m.frames)) cx p) ≡ left last m' (rule_of (functions_of m') (inner m') cx p)
   pub around : m'.context ≡ m.context
   pub less : weight m' + 3 ≤ weight m
 
@@ -166,5 +202,5 @@ Stops tree halt.Memory = Unit {0}
 
 abbrev pub Descends : Place → Machine → Result (Unit {0}) Halt → Machine → Type 0
 Descends place m (Ok done) m' = Descended place m m'
-Descends place m (Err e) m' = (last : AfterValue) (begins : def.Part) → part_place begins ≡ place
-    → Stops (left last m (evaluation by_slots (functions_of m) (room m.frames) begins)) e
+Descends place m (Err e) m' = (last : AfterValue) (cx : Context) (p : Part) → part_place p ≡ place
+    → Stops (left last m (begun (evaluation by_slots (functions_of m) (room m.frames)) cx p)) e

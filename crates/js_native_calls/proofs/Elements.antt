@@ -1,5 +1,5 @@
 -- The elements of an array become texts one by one, and are joined (ECMA-262 5.1, section 15.4.4.5).
-use Rattle.std.proofs.Common.{◌≡◌, ℕ, suc, ◌-◌, ◌+◌, ◌<◌, List, [], ◌∷◌, ◌++◌, length, Bool, true, if◌then◌else◌, Ok, Err, Result, refl, ap, sym, subst, false, ◌⊎◌, inl, inr}
+use Rattle.std.proofs.Common.{◌≡◌, ℕ, suc, ◌-◌, ◌+◌, List, [], ◌∷◌, ◌++◌, length, Bool, true, if◌then◌else◌, Ok, Err, Result, refl, ap, sym, subst, false, ◌⊎◌, inl, inr}
 use Rattle.std.specs.Prelude.{nat_lt}
 use Rattle.std.specs.Fmt.{decimal}
 use Rattle.std.specs.Result.{IsErrAnd}
@@ -29,7 +29,7 @@ use Rattle.heap_steps.specs.declared.halt.Halt.TheVariants as halt
 use Rattle.heap_steps.specs.Works.{Works}
 use Rattle.js_machine.specs.declared.machine.Machine.{Machine}
 use Rattle.js_machine.specs.declared.now.Now.{Now}
-use Rattle.js_machine.specs.Moves.{Moves, at, functions_of, run_state, inner}
+use Rattle.js_machine.specs.Moves.{Leads, Moves, at, functions_of, run_state, inner}
 use Rattle.js_machine.proofs.Steps.{with_heap, works_then, works_stops}
 use Rattle.js_native_calls.specs.Calls.{converted, join_refusal, joined_from, joined_value, plain_text}
 use Rattle.js_native_calls.proofs.Grouping.{grouped}
@@ -45,7 +45,7 @@ too_long m text place long =
       goes = λ last. ap (λ (b : Bool). changed place (if b then Err answer.StringTooLong
           else if nat_lt MOST_TEXT (m.state.heap.units + length text) then Err answer.TextSpent
           else Ok (record m.state.heap { units = m.state.heap.units + length text }))
-          (onward (λ _. pure (value.Text text)) (rest_of (functions_of m) last m.frames)) (run_state m.state)) long;
+          (onward (λ _. pure (value.Text text)) (rest_of (functions_of m) last m.frames).given) (run_state m.state)) long;
       light = tt;
     }
 
@@ -110,7 +110,7 @@ module _ (m : Machine) (count : ℕ) (array : ObjectId) (texts : List (List ℕ)
 
       -- the next is an object that is asked
       pub asked_element : (id : ObjectId) → v ≡ value.Object id
-          → Moves (at m converted text_methods id place (wanted.Element less count array texts separator place)) (with_heap m h) r m'
+          → Leads (at m converted text_methods id place (wanted.Element less count array texts separator place)) (with_heap m h) r m'
           → Moves (at m joined_from left count array texts separator place) m r m'
       asked_element id e k =
           read (subst (λ (w : Value). Moves (taken w) (with_heap m h) r m') (sym e)

@@ -19,7 +19,7 @@ use Rattle.heap_steps.specs.declared.halt.Halt.{Halt}
 use Rattle.heap_steps.specs.Works.{Works}
 use Rattle.js_machine.specs.declared.machine.Machine.{Machine}
 use Rattle.js_machine.specs.declared.now.Now.{Now}
-use Rattle.js_machine.specs.Moves.{Moves, at, inner}
+use Rattle.js_machine.specs.Moves.{Leads, Moves, at, inner}
 use Rattle.js_machine.proofs.Steps.{with_heap, works_then}
 use Rattle.js_native_calls.specs.Calls.{converted, name_or_error, text_of_error}
 use Rattle.js_native_calls.proofs.Grouping.{grouped}
@@ -36,14 +36,14 @@ module _ (m : Machine) (error : ObjectId) (place : Place) (h : HeapView) (v : Va
 
   -- an object is asked
   pub asked_name : (id : ObjectId) → v ≡ value.Object id
-      → Moves (at m converted text_methods id place (wanted.ErrorName error place)) (with_heap m h) r m' → Moves (at m text_of_error error place) m r m'
+      → Leads (at m converted text_methods id place (wanted.ErrorName error place)) (with_heap m h) r m' → Moves (at m text_of_error error place) m r m'
   asked_name id e k =
       works_then (get (value.Object error) (codes "name") place) named m h v got
       (subst (λ (w : Value). Moves (named w) (with_heap m h) r m') (sym e)
       (grouped (primitive_by (calls (inner m)) text_methods id place) (λ p. pure (text_of p)) message_of (with_heap m h) r m' k))
 
   pub plain_name : ((id : ObjectId) → v ≡ value.Object id → ⊥)
-      → Moves (at m with_primitive (wanted.ErrorName error place) (name_or_error v)) (with_heap m h) r m' → Moves (at m text_of_error error place) m r m'
+      → Leads (at m with_primitive (wanted.ErrorName error place) (name_or_error v)) (with_heap m h) r m' → Moves (at m text_of_error error place) m r m'
   plain_name n k =
       works_then (get (value.Object error) (codes "name") place) named m h v got
       (subst (λ (p : Does (List ℕ)). Moves (p >>= message_of) (with_heap m h) r m') (sym (text_of_name (calls (inner m)) v place n)) k)

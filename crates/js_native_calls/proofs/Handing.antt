@@ -20,7 +20,7 @@ use Rattle.js_evaluation.specs.Parts.{calls}
 use Rattle.heap_steps.specs.declared.halt.Halt.{Halt}
 use Rattle.js_machine.specs.declared.machine.Machine.{Machine}
 use Rattle.js_machine.specs.declared.now.Now.{Now}
-use Rattle.js_machine.specs.Moves.{Moves, at, inner}
+use Rattle.js_machine.specs.Moves.{Leads, Moves, at, inner}
 use Rattle.js_machine.proofs.Steps.{with_heap, works_then, works_stops}
 use Rattle.js_native_calls.specs.declared.readying.Readied.TheVariants as readied
 use Rattle.js_native_calls.specs.Calls.{converted, converted_from, native_done}
@@ -66,7 +66,7 @@ module _ (m : Machine) (n : Native) (done handed : List Value) (place : Place) (
 
     -- the next is an object that is asked
     pub next_asked : (m' : Machine) (id : ObjectId) → Readies (calls (inner m)) n (conversion_at n (length done)) (argument (length done) handed) place m.state.heap (Ok (readied.Asked id)) h
-        → Moves (at m converted (methods_for (conversion_at n (length done))) id place (wanted.Handed n less done handed place)) (with_heap m h) r m'
+        → Leads (at m converted (methods_for (conversion_at n (length done))) id place (wanted.Handed n less done handed place)) (with_heap m h) r m'
         → Moves (at m converted_from n left done handed place) m r m'
     next_asked m' id t k =
         let by_methods = grouped (primitive_by (calls (inner m)) (methods_for c) id place) (λ p. settled c p place) behind (with_heap m h) r m' k in

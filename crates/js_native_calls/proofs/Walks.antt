@@ -54,7 +54,7 @@ module _ (n : ℕ) (place : Place) (next : Does Value) where
     stopped : (e : Halt) (m' : Machine) → Charges n place m.state.fuel (Err e) left → Moves (charges n place >> next) m (Err e) m'
     stopped (halt.Throw thrown) m' c = absurd c
     stopped (halt.Fault f p) m' c = record {
-      goes = λ last. spent (rest_of (functions_of m) last m.frames) m.state.heap m.state.fuel (beside_of m.state) c.2
+      goes = λ last. spent (rest_of (functions_of m) last m.frames).given m.state.heap m.state.fuel (beside_of m.state) c.2
           ∙ ap (λ (x : FaultCode). Done (Faults (plain_fault x place))) (sym c.0) ∙ ap (λ (q : Place). Done (Faults (plain_fault f q))) (sym c.1);
       light = tt;
     }

@@ -8,7 +8,6 @@ use Rattle.heap_values.specs.declared.value.Value.TheVariants as value
 use Rattle.array_builtins.specs.declared.joining.JoinAnswer.{JoinAnswer}
 use Rattle.array_builtins.specs.declared.joining.JoinAnswer.TheVariants as answer
 use Rattle.js_convert.specs.Texts.{text_of}
-use Rattle.run_trees.specs.Runs.{◌>>=◌}
 use Rattle.js_evaluation.specs.declared.fault.FaultCode.TheVariants as code
 use Rattle.js_evaluation.specs.declared.native.Native.{Native}
 use Rattle.js_evaluation.specs.State.{Does}
@@ -17,6 +16,7 @@ use Rattle.js_evaluation.specs.Conversions as convert
 use Rattle.js_evaluation.specs.Natives as natives
 use Rattle.js_evaluation.specs.NativeTable as table
 use Rattle.js_frames.specs.declared.wanted.Wanted.{Wanted}
+use Rattle.js_frames.specs.Rests.{DoesEither, ◌>=>◌}
 use Rattle.js_frames.specs.RestOf.{with_primitive}
 use Rattle.heap_steps.specs.declared.halt.Halt.{Halt}
 use Rattle.heap_steps.specs.declared.halt.Halt.TheVariants as halt
@@ -40,8 +40,8 @@ join_refusal answer.Memory place = halt.Memory
 
 module _ (functions : List FunctionTree) (go : Within) (cx : Context) where
   -- an object becomes a primitive value, with what that is wanted for
-  abbrev pub converted : List (List ℕ) → ObjectId → Place → Wanted → Does Value
-  converted methods object place wanted = convert.primitive_by (calls go) methods object place >>= with_primitive functions go cx wanted
+  abbrev pub converted : List (List ℕ) → ObjectId → Place → Wanted → DoesEither
+  converted methods object place wanted = convert.primitive_by (calls go) methods object place >=> with_primitive functions go cx wanted
 
   abbrev pub native_call : ℕ → Value → List Value → Place → Does Value
   native_call n = natives.native_outcome (calls go) (table.native_of n)

@@ -1,7 +1,7 @@
 // Objects that become primitive values (ECMA-262 5.1, sections 8.12.8 and 9.1).
 ghost use Rattle.std.specs.Prelude.{◌≡◌, ◌∷◌, [], MatchOption};
 ghost use Rattle.js_frames.specs.Parts.{names_of};
-ghost use Rattle.js_machine.specs.Moves.{Moves, at};
+ghost use Rattle.js_machine.specs.Moves.{Leads, at};
 ghost use Rattle.js_native_calls.specs.Calls as spec;
 
 use crate::giving::type_error;
@@ -33,7 +33,7 @@ pub fn convert<'p>(
     place: Place,
     wanted: Wanted<'p>,
 ) -> Step<'p>
-    ensures { Moves (at machine.old spec.converted (names_of methods) object place wanted.entry) machine.old result machine.new }
+    ensures { Leads (at machine.old spec.converted (names_of methods) object place wanted.entry) machine.old result machine.new }
 {
     let mut left = methods;
     while let Some((name, methods)) = next_method(left) {

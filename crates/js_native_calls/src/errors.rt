@@ -5,7 +5,7 @@ ghost use Rattle.js_evaluation.specs.Handed as handed;
 ghost use Rattle.js_evaluation.specs.Natives as natives;
 ghost use Rattle.js_frames.specs.RestOf.{with_primitive};
 ghost use Rattle.js_frames.specs.declared.wanted.Wanted.TheVariants as wanted;
-ghost use Rattle.js_machine.specs.Moves.{Moves, at};
+ghost use Rattle.js_machine.specs.Moves.{Leads, Moves, at};
 ghost use Rattle.js_native_calls.specs.Calls as spec;
 
 use crate::converting::convert;
@@ -69,7 +69,7 @@ pub fn error_named<'p>(
     name: &Value,
     place: Place,
 ) -> Step<'p>
-    ensures { Moves (at machine.old with_primitive (wanted.ErrorName error place) name.now) machine.old result machine.new }
+    ensures { Leads (at machine.old with_primitive (wanted.ErrorName error place) name.now) machine.old result machine.new }
 {
     let name = to_text(machine.alloc, name)?;
     let heap = &mut machine.state.heap;

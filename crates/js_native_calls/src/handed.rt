@@ -1,7 +1,7 @@
 // The values that are handed to a native are converted, and then it works.
 ghost use Rattle.js_frames.specs.RestOf.{with_primitive};
 ghost use Rattle.js_frames.specs.declared.wanted.Wanted.TheVariants as wanted;
-ghost use Rattle.js_machine.specs.Moves.{Moves, at};
+ghost use Rattle.js_machine.specs.Moves.{Leads, Moves, at};
 ghost use Rattle.js_native_calls.specs.Calls as spec;
 
 use crate::converting::convert;
@@ -63,7 +63,7 @@ pub fn value_converted<'p>(
     place: Place,
     value: Value,
 ) -> Step<'p>
-    ensures { Moves (at machine.old with_primitive (wanted.Handed native left done handed place) value) machine.old result machine.new }
+    ensures { Leads (at machine.old with_primitive (wanted.Handed native left done handed place) value) machine.old result machine.new }
 {
     let conversion = conversion_at(native, done.len());
     let value = settled(machine.alloc, conversion, value, place)?;

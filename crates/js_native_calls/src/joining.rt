@@ -8,7 +8,7 @@ ghost use Rattle.js_evaluation.specs.Objects as objects;
 ghost use Rattle.js_frames.specs.RestOf.{with_primitive};
 ghost use Rattle.js_frames.specs.declared.wanted.Wanted.TheVariants as wanted;
 ghost use Rattle.heap_steps.specs.Works.{Works};
-ghost use Rattle.js_machine.specs.Moves.{Moves, at};
+ghost use Rattle.js_machine.specs.Moves.{Leads, Moves, at};
 ghost use Rattle.js_native_calls.specs.Calls as spec;
 
 use crate::converting::convert;
@@ -120,7 +120,7 @@ pub fn element_converted<'p>(
     place: Place,
     value: &Value,
 ) -> Step<'p>
-    ensures { Moves (at machine.old with_primitive (wanted.Element left count array texts separator place) value.now) machine.old result machine.new }
+    ensures { Leads (at machine.old with_primitive (wanted.Element left count array texts separator place) value.now) machine.old result machine.new }
 {
     let text = to_text(machine.alloc, value)?;
     let mut texts = texts;

@@ -3,21 +3,20 @@ ghost use Rattle.std.specs.Prelude.{◌≡◌, ◌+◌, ◌*◌, ◌<◌, ◌≤
 ghost use Rattle.js_convert.specs.Texts.{text_of};
 ghost use Rattle.js_evaluation.specs.Handed as given;
 ghost use Rattle.js_evaluation.specs.NativeWork as work;
-ghost use Rattle.js_evaluation.specs.PacNatives as spec;
+ghost use Rattle.js_evaluation.specs.PacNatives.{pac_walk};
+ghost use Rattle.js_evaluation.specs.Walks as spec;
 ghost use Rattle.js_natives.specs.Charges.{Charges};
 ghost use Rattle.pac_functions.specs.Texts.{text_in};
 
-use array_builtins::ArrayMethod;
 use heap_steps::Halt;
 use heap_values::Value;
 use js_convert::to_text;
-use js_evaluation::{FaultCode, PlainNative};
+use js_evaluation::{FaultCode, Native, PlainNative, Walk};
+use js_native_table::walk_of;
 use js_tree::Place;
-use number_builtins::NumberMethod;
 use object_heap::Heap;
 use pac_functions::PacFunction;
 use std::alloc::Global;
-use text_builtins::TextMethod;
 use utf16_text::Memory;
 
 /// The argument in a place, counted from 0; undefined where it is missing.
@@ -30,8 +29,7 @@ pub fn argument(alloc: Global, arguments: &[Value], at: usize) -> Result<Value, 
     }
 }
 
-/// Takes what the walk of a function of the proxy format costs, whose arguments are converted: the units of their
-/// texts, for `shExpMatch` each place of the text beside each of the pattern, and nothing for the ranges.
+/// Takes what the walk of a function of the proxy format costs, whose arguments are converted.
 pub fn charge_walk(
     alloc: Global,
     fuel: &mut u64,
@@ -39,14 +37,68 @@ pub fn charge_walk(
     arguments: &[Value],
     place: Place,
 ) -> Result<(), Halt>
-    ensures { Charges (spec.pac_walk function arguments.now) place fuel.old result fuel.new }
+    ensures { Charges (pac_walk function arguments.now) place fuel.old result fuel.new }
 {
-    match function {
-        PacFunction::ShExpMatch => charge_match(alloc, fuel, arguments, place),
-        PacFunction::WeekdayRange => Ok(()),
-        PacFunction::DateRange => Ok(()),
-        PacFunction::TimeRange => Ok(()),
-        _ => charge_texts(alloc, fuel, arguments, place),
+    let walk = walk_of(Native::Pac(function));
+    charge_values(alloc, fuel, walk, arguments, arguments.len(), place)
+}
+
+/// Takes what the walk of a native costs on the values that it takes, which are converted: so many were handed to it,
+/// surplus ones too.
+pub fn charge_plain_walk(
+    alloc: Global,
+    fuel: &mut u64,
+    heap: &Heap,
+    native: PlainNative,
+    values: &[Value],
+    handed: usize,
+    place: Place,
+) -> Result<(), Halt>
+    ensures { Charges (work.plain_walk native heap.now values.now handed) place fuel.old result fuel.new }
+{
+    let walk = walk_of(Native::Plain(native));
+    charge_by(alloc, fuel, heap, walk, values, handed, place)
+}
+
+/// Takes what a walk costs.
+fn charge_by(
+    alloc: Global,
+    fuel: &mut u64,
+    heap: &Heap,
+    walk: Walk,
+    values: &[Value],
+    handed: usize,
+    place: Place,
+) -> Result<(), Halt>
+    ensures { Charges (work.walk_by walk heap.now values.now handed) place fuel.old result fuel.new }
+{
+    match walk {
+        Walk::Keys => charge_keys(alloc, fuel, heap, values, place),
+        Walk::Elements => charge_elements(fuel, heap, values, place),
+        Walk::AllElements => charge_concat(fuel, heap, values, place),
+        _ => charge_values(alloc, fuel, walk, values, handed, place),
+    }
+}
+
+/// Takes what a walk costs over values alone; one that goes over objects costs nothing here.
+fn charge_values(
+    alloc: Global,
+    fuel: &mut u64,
+    walk: Walk,
+    values: &[Value],
+    handed: usize,
+    place: Place,
+) -> Result<(), Halt>
+    ensures { Charges (spec.values_walk walk values.now handed) place fuel.old result fuel.new }
+{
+    match walk {
+        Walk::Values => charge_units(fuel, Some(handed as u64), place),
+        Walk::Arguments => charge_arguments(fuel, values, place),
+        Walk::Texts => charge_text_units(fuel, values, place),
+        Walk::Search => charge_search(fuel, values, place),
+        Walk::Units => charge_texts(alloc, fuel, values, place),
+        Walk::Pattern => charge_match(alloc, fuel, values, place),
+        _ => Ok(()),
     }
 }
 
@@ -92,30 +144,6 @@ fn charge_match(
     charge_units(fuel, walk_beside(text, pattern), place)
 }
 
-/// Takes what the walk of a native costs on the values that it takes, which are converted: so many were handed to it,
-/// surplus ones too.
-pub fn charge_plain_walk(
-    alloc: Global,
-    fuel: &mut u64,
-    heap: &Heap,
-    native: PlainNative,
-    values: &[Value],
-    handed: usize,
-    place: Place,
-) -> Result<(), Halt>
-    ensures { Charges (work.plain_walk native heap.now values.now handed) place fuel.old result fuel.new }
-{
-    match native {
-        PlainNative::Keys => charge_keys(alloc, fuel, heap, values, place),
-        PlainNative::TextMethod(method) => charge_text_walk(fuel, method, values, place),
-        PlainNative::NumberMethod(method) => {
-            charge_number_walk(fuel, method, values, handed, place)
-        }
-        PlainNative::ArrayMethod(method) => charge_array_walk(fuel, heap, method, values, place),
-        _ => Ok(()),
-    }
-}
-
 /// Takes the count of the names that `Object.keys` lists.
 fn charge_keys(
     alloc: Global,
@@ -141,27 +169,9 @@ fn keys_in(alloc: Global, heap: &Heap, value: &Value) -> Result<u64, Memory>
     }
 }
 
-/// Takes what the walk of a method of texts costs: each place of the text, with the one behind its end, beside each of
-/// the part that is looked for, or the units of all values.
-fn charge_text_walk(
-    fuel: &mut u64,
-    method: TextMethod,
-    values: &[Value],
-    place: Place,
-) -> Result<(), Halt>
-    ensures { Charges (work.text_walk method values.now) place fuel.old result fuel.new }
-{
-    match method {
-        TextMethod::IndexOf => charge_search(fuel, values, place),
-        TextMethod::LastIndexOf => charge_search(fuel, values, place),
-        TextMethod::Replace => charge_search(fuel, values, place),
-        TextMethod::Split => charge_search(fuel, values, place),
-        _ => charge_text_units(fuel, values, place),
-    }
-}
-
+/// Takes each place of the text of the first value, with the one behind its end, beside each of the second.
 fn charge_search(fuel: &mut u64, values: &[Value], place: Place) -> Result<(), Halt>
-    ensures { Charges (work.search_walk (given.argument 0 values.now) (given.argument 1 values.now)) place fuel.old result fuel.new }
+    ensures { Charges (spec.search_walk (given.argument 0 values.now) (given.argument 1 values.now)) place fuel.old result fuel.new }
 {
     let walk = walk_beside(units_at(values, 0), units_at(values, 1));
     charge_units(fuel, walk, place)
@@ -169,7 +179,7 @@ fn charge_search(fuel: &mut u64, values: &[Value], place: Place) -> Result<(), H
 
 /// Takes the units of the texts among values.
 fn charge_text_units(fuel: &mut u64, values: &[Value], place: Place) -> Result<(), Halt>
-    ensures { Charges (work.text_units values.now) place fuel.old result fuel.new }
+    ensures { Charges (spec.text_units values.now) place fuel.old result fuel.new }
 {
     let mut left = values;
     while let [value, rest @ ..] = left {
@@ -181,7 +191,7 @@ fn charge_text_units(fuel: &mut u64, values: &[Value], place: Place) -> Result<(
 
 /// The units of the text in a place, counted from 0; any other value has none.
 fn units_at(values: &[Value], at: usize) -> u64
-    ensures { result ≡ work.units_in (given.argument at values.now) }
+    ensures { result ≡ spec.units_in (given.argument at values.now) }
 {
     match values.get(at) {
         None => 0,
@@ -191,7 +201,7 @@ fn units_at(values: &[Value], at: usize) -> u64
 
 /// The units of a text; any other value has none.
 fn units_in(value: &Value) -> u64
-    ensures { result ≡ work.units_in value.now }
+    ensures { result ≡ spec.units_in value.now }
 {
     match value {
         Value::Text(text) => text.len() as u64,
@@ -199,42 +209,9 @@ fn units_in(value: &Value) -> u64
     }
 }
 
-fn charge_number_walk(
-    fuel: &mut u64,
-    method: NumberMethod,
-    values: &[Value],
-    handed: usize,
-    place: Place,
-) -> Result<(), Halt>
-    ensures { Charges (work.number_walk method values.now handed) place fuel.old result fuel.new }
-{
-    match method {
-        NumberMethod::ParseInt => charge_text_units(fuel, values, place),
-        NumberMethod::ToString => Ok(()),
-        _ => charge_units(fuel, Some(handed as u64), place),
-    }
-}
-
-fn charge_array_walk(
-    fuel: &mut u64,
-    heap: &Heap,
-    method: ArrayMethod,
-    values: &[Value],
-    place: Place,
-) -> Result<(), Halt>
-    ensures { Charges (work.array_walk method heap.now values.now) place fuel.old result fuel.new }
-{
-    match method {
-        ArrayMethod::Push => charge_arguments(fuel, values, place),
-        ArrayMethod::Pop => charge_arguments(fuel, values, place),
-        ArrayMethod::Concat => charge_concat(fuel, heap, values, place),
-        _ => charge_elements(fuel, heap, values, place),
-    }
-}
-
 /// Takes one unit for each value behind the receiver.
 fn charge_arguments(fuel: &mut u64, values: &[Value], place: Place) -> Result<(), Halt>
-    ensures { Charges (work.arguments_walk values.now) place fuel.old result fuel.new }
+    ensures { Charges (spec.arguments_walk values.now) place fuel.old result fuel.new }
 {
     match values {
         [] => Ok(()),

@@ -1,10 +1,10 @@
 // Calls (ECMA-262 5.1, section 11.2.3).
-ghost use Rattle.std.specs.Prelude.{◌++◌, ◌∷◌, []};
+ghost use Rattle.std.specs.Prelude.{[]};
 ghost use Rattle.js_tree.specs.Tree.{expressions_of};
 ghost use Rattle.js_frames.specs.RestOf.{after_suffix};
 ghost use Rattle.js_frames.specs.declared.expression_frame.SuffixFrame.TheVariants as of_suffix;
 ghost use Rattle.js_frames.specs.declared.frame.Frame.TheVariants as frame;
-ghost use Rattle.js_machine.specs.Moves.{Moves, at, evaluated};
+ghost use Rattle.js_machine.specs.Moves.{Leads, at, evaluated};
 ghost use Rattle.js_primary.specs.Calls as spec;
 
 use heap_steps::callable;
@@ -21,7 +21,7 @@ pub fn first_arguments<'p>(
     call: OpenCall<'p>,
     all: &'p ExpressionList,
 ) -> Step<'p>
-    ensures { Moves (at machine.old spec.arguments_from call.entry [] (expressions_of all.entry.now)) machine.old result machine.new }
+    ensures { Leads (at machine.old spec.arguments_from call.entry [] (expressions_of all.entry.now)) machine.old result machine.new }
 {
     let done = List::new(machine.alloc);
     arguments_from(machine, call, done, all.as_slice())
@@ -34,7 +34,7 @@ fn arguments_from<'p>(
     done: List<Value>,
     left: &'p [Expression],
 ) -> Step<'p>
-    ensures { Moves (at machine.old spec.arguments_from call.entry done (expressions_of left.entry.now)) machine.old result machine.new }
+    ensures { Leads (at machine.old spec.arguments_from call.entry done (expressions_of left.entry.now)) machine.old result machine.new }
 {
     let mut done = done;
     let mut left = left;
@@ -56,7 +56,7 @@ fn argument<'p>(
     e: &'p Expression,
     left: &'p [Expression],
 ) -> Step<'p>
-    ensures { Moves (at machine.old evaluated e.entry.now (frame.Suffix (of_suffix.Argument call.entry done left.entry))) machine.old result machine.new }
+    ensures { Leads (at machine.old evaluated e.entry.now (frame.Suffix (of_suffix.Argument call.entry done left.entry))) machine.old result machine.new }
 {
     let frame = SuffixFrame::Argument { call, done, left };
     machine.evaluate(e, Frame::Suffix(frame))
@@ -70,7 +70,7 @@ pub fn argument_done<'p>(
     left: &'p [Expression],
     value: Value,
 ) -> Step<'p>
-    ensures { Moves (at machine.old after_suffix (of_suffix.Argument call.entry done left.entry) value) machine.old result machine.new }
+    ensures { Leads (at machine.old after_suffix (of_suffix.Argument call.entry done left.entry) value) machine.old result machine.new }
 {
     let mut done = done;
     done.push(machine.alloc, value)?;
@@ -79,7 +79,7 @@ pub fn argument_done<'p>(
 
 /// Calls a value as a function, where it is one; then come the suffixes behind the call.
 fn call_value<'p>(machine: &mut Machine<'p>, call: OpenCall<'p>, arguments: List<Value>) -> Step<'p>
-    ensures { Moves (at machine.old spec.call_value call.entry arguments) machine.old result machine.new }
+    ensures { Leads (at machine.old spec.call_value call.entry arguments) machine.old result machine.new }
 {
     let OpenCall {
         aim,

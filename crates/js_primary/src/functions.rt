@@ -6,7 +6,6 @@ ghost use Rattle.js_machine.specs.Moves.{Moves, at};
 ghost use Rattle.js_primary.specs.Functions as spec;
 
 use heap_steps::{closure, make_scope};
-use heap_values::Value;
 use js_machine::{Machine, Now, Step};
 use js_tree::{Function, Place};
 use utf16_text::Memory;

@@ -14,7 +14,6 @@ use js_frames::{ExpressionFrame, Frame};
 use js_machine::{Machine, Now, Step};
 use js_tree::{Expression, Place, Property};
 use object_heap::Marks;
-use std::alloc::Global;
 use utf16_text::{Memory, Text};
 use whole_number::Whole;
 

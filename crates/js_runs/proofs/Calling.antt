@@ -1,5 +1,5 @@
 -- A call of the host within a run.
-use Rattle.std.proofs.Common.{◌≡◌, ℕ, ◌+◌, List, Option, Some, None, Bool, true, false, Result, Ok, Err, if◌then◌else◌, refl, sym, ap, subst, ◌∙◌, arith}
+use Rattle.std.proofs.Common.{◌≡◌, ℕ, List, Option, Some, None, Bool, true, false, Result, Ok, Err, if◌then◌else◌, refl, sym, ap, subst, ◌∙◌, arith}
 use Rattle.std.specs.Prelude.{is_some, slice_get}
 use Rattle.std.specs.Result.{IsErrAnd}
 use Rattle.js_tree.specs.declared.place.Place.{Place}
@@ -12,26 +12,26 @@ use Rattle.pac_names.specs.Names.{lookup_name_of}
 use Rattle.pac_names.specs.Quads.{quad_of}
 use Rattle.pac_calendar.specs.declared.moment.Moments.{Moments}
 use Rattle.js_host.specs.Answers.{Name, known_answer}
-use Rattle.js_host.specs.Seen.{Seen, Reply, Answered, Refused, Lookup, Replies, Lacks, lookup_by, looked_up, is_one_too_many, with_name, with_alert}
+use Rattle.js_host.specs.Seen.{Seen, Reply, Answered, Refused, Replies, lookup_by, is_one_too_many, with_name}
 use Rattle.pac_functions.specs.declared.call.PacFunction.{PacFunction}
 use Rattle.pac_functions.specs.declared.call.PacFunction.TheVariants as function
-use Rattle.pac_functions.specs.Addresses.{PacEnd, Gives, AsksTooMany, AfterAddress, replied, named_then, read_then, text_then, is_nothing, value_then, resolved, quad_result, is_address_in}
+use Rattle.pac_functions.specs.Addresses.{PacEnd, Gives, AsksTooMany, AfterAddress, replied, named_then, read_then, text_then, is_nothing, resolved, quad_result, is_address_in}
 use Rattle.pac_functions.specs.Call.{pac_call, gives as give}
 use Rattle.pac_functions.specs.Texts.{or_undefined, text_in}
 use Rattle.js_convert.specs.Texts.{text_of}
-use Rattle.run_trees.specs.RunTree.{RunTree, Done, Ask, Walked, Ended, Stopped, with_lookup, walk}
+use Rattle.run_trees.specs.RunTree.{RunTree, Walked, Ended, Stopped, with_lookup, walk}
 use Rattle.js_evaluation.specs.Handed.{gives}
 use Rattle.js_evaluation.specs.PacNatives.{pac_end, pac_work}
 use Rattle.js_evaluation.proofs.Following.{walked_on, walks_on}
 use Rattle.js_evaluation.specs.State.{AfterValue}
-use Rattle.js_frames.specs.RestOf.{rest_of}
+use Rattle.js_frames.specs.Rests.{giving}
 use Rattle.heap_steps.specs.declared.halt.Halt.{Halt}
 use Rattle.heap_steps.specs.declared.halt.Halt.TheVariants as halt
 use Rattle.heap_steps.specs.Works.{Works}
 use Rattle.js_machine.specs.declared.machine.Machine.{Machine}
 use Rattle.js_machine.specs.declared.now.Now.{Now}
 use Rattle.js_machine.specs.declared.now.Now.TheVariants as now
-use Rattle.js_machine.specs.Moves.{functions_of, left, present, run_state}
+use Rattle.js_machine.specs.Moves.{left}
 use Rattle.js_machine.proofs.Steps.{with_heap}
 use Rattle.js_evaluation.specs.declared.fault.FaultCode.TheVariants as code
 use Rattle.js_runs.specs.Asking.{AreKept, Calls, GivesBack, alerts_after}
@@ -130,12 +130,12 @@ module _ (f : PacFunction) (vs : List Value) (place : Place) (m : Machine) (last
 
   -- it ends, and its end stands in its place
   pub call_ends : (end : PacEnd) → walk call before ≡ Ended end after
-      → walk (left last m (pac_work f vs place)) before ≡ walk (left last m (pac_end place end)) after
-  call_ends end e = walks_on (λ x. left last m (pac_end place x)) call before ∙ ap (walked_on (λ x. left last m (pac_end place x))) e
+      → walk (left last m (giving (pac_work f vs place))) before ≡ walk (left last m (giving (pac_end place end))) after
+  call_ends end e = walks_on (λ x. left last m (giving (pac_end place x))) call before ∙ ap (walked_on (λ x. left last m (giving (pac_end place x)))) e
 
   -- it stops at a name, and so does the run
-  pub call_stops : (name : Name) → walk call before ≡ Stopped name after → walk (left last m (pac_work f vs place)) before ≡ Stopped name after
-  call_stops name e = walks_on (λ x. left last m (pac_end place x)) call before ∙ ap (walked_on (λ x. left last m (pac_end place x))) e
+  pub call_stops : (name : Name) → walk call before ≡ Stopped name after → walk (left last m (giving (pac_work f vs place))) before ≡ Stopped name after
+  call_stops name e = walks_on (λ x. left last m (giving (pac_end place x))) call before ∙ ap (walked_on (λ x. left last m (giving (pac_end place x)))) e
 
 -- ---- the value of a call
 
@@ -177,7 +177,7 @@ module _ (f : PacFunction) (vs given : List Value) (same : given ≡ vs) (place 
   call_gives v step e back kept =
       let ended = comes (Ended (Gives v) after) e in
       record {
-        goes = λ last. rw (call_ends f vs place m last before after (Gives v) ended) (goes_over last (left last m (gives v place)) step m' after (back.goes last));
+        goes = λ last. rw (call_ends f vs place m last before after (Gives v) ended) (goes_over last (left last m (giving (gives v place))) step m' after (back.goes last));
         light = back.light;
         keeps = λ begun. are_kept step alerts' after.alerts
             (kept ∙ ap (λ args. alerts_after f args alerts) same ∙ ap (alerts_after f vs) begun ∙ sym (keeps_of f vs m.state.now m.state.settings.my_ip before (Gives v) after ended));

@@ -9,7 +9,7 @@ use Rattle.js_host.specs.Seen.{Seen}
 use Rattle.run_trees.specs.RunTree.{RunTree, Done, Walked, walk}
 use Rattle.js_evaluation.specs.declared.thrown.Thrown.{Thrown}
 use Rattle.js_evaluation.specs.State.{RunEnd, Comes, Stop, AfterValue}
-use Rattle.js_evaluation.specs.Evaluation.{node, outer_scope}
+use Rattle.js_evaluation.specs.Evaluation.{outer_scope}
 use Rattle.js_evaluation.specs.Entries as entry
 use Rattle.js_evaluation.specs.Expressions as expression
 use Rattle.js_evaluation.specs.Statements as statement
@@ -21,11 +21,11 @@ use Rattle.js_machine.specs.declared.machine.Machine.{Machine}
 use Rattle.js_machine.specs.declared.now.Now.{Now}
 use Rattle.js_machine.specs.declared.now.Now.TheVariants as now
 use Rattle.js_machine.specs.declared.now.Part.{Part}
-use Rattle.js_machine.specs.Moves.{Goes, Light, Moves, Descended, Descends, functions_of, inner, part_of, present, weight, waits, anywhere}
+use Rattle.js_machine.specs.Moves.{Goes, Light, Leads, Moves, Refers, Descended, Descends, functions_of, inner, part_place, rule_of, present, weight, waits, anywhere}
 use Rattle.js_machine.specs.declared.now.Part.TheVariants as part
 use Rattle.js_machine.specs.Moves.{at}
 use Rattle.js_frames.specs.declared.frame.Context.{Context as Around}
-use Rattle.js_evaluation.specs.Parts.{part_place, outside, expression_place, statement_place}
+use Rattle.js_evaluation.specs.Parts.{outside, expression_place, statement_place}
 use Rattle.js_evaluation.specs.Statements.{statement_node as statement_rule}
 use Rattle.js_tree.specs.View.{expression_of, statement_of, declarations_of}
 use Rattle.js_tree.specs.Tree.{ExpressionTree, StatementTree, statements_of}
@@ -43,24 +43,24 @@ use Rattle.js_runs.specs.Closes.{Begins, Closed, Closes, KeptAtEnd, handed_on}
 
 module _ (part : Part) (place : Place) (m : Machine) where
   -- where the part is charged and has room, its rule goes on
-  pub begins_with : (begun : Machine) (r : Result Now Halt) (m' : Machine) → part_place (part_of (context_of m.context) part) ≡ place
-      → Descended place m begun → Moves (node by_slots (functions_of begun) (inner begun) (part_of (context_of m.context) part)) begun r m'
+  pub begins_with : (begun : Machine) (r : Result Now Halt) (m' : Machine) → part_place part ≡ place
+      → Descended place m begun → Leads (rule_of (functions_of begun) (inner begun) (context_of m.context) part) begun r m'
       → Begins part m r m'
-  begins_with begun (Ok what) m' here d k = record { goes = λ last. d.goes_in last _ here ∙ k.goes last; light = omega (arith, d.less, k.light) }
-  begins_with begun (Err (halt.Throw t)) m' here d k = record { goes = λ last. d.goes_in last _ here ∙ k.goes last; light = omega (arith, d.less, k.light) }
-  begins_with begun (Err (halt.Fault c p)) m' here d k = record { goes = λ last. d.goes_in last _ here ∙ k.goes last; light = tt }
-  begins_with begun (Err (halt.LeftOut n p)) m' here d k = record { goes = λ last. d.goes_in last _ here ∙ k.goes last; light = tt }
+  begins_with begun (Ok what) m' here d k = record { goes = λ last. d.goes_in last _ part here ∙ k.goes last; light = omega (arith, d.less, k.light) }
+  begins_with begun (Err (halt.Throw t)) m' here d k = record { goes = λ last. d.goes_in last _ part here ∙ k.goes last; light = omega (arith, d.less, k.light) }
+  begins_with begun (Err (halt.Fault c p)) m' here d k = record { goes = λ last. d.goes_in last _ part here ∙ k.goes last; light = tt }
+  begins_with begun (Err (halt.LeftOut n p)) m' here d k = record { goes = λ last. d.goes_in last _ part here ∙ k.goes last; light = tt }
   begins_with begun (Err halt.Memory) m' here d k = record { goes = λ last. tt; light = tt }
 
-  stops_with : (e : Halt) (m' : Machine) → part_place (part_of (context_of m.context) part) ≡ place → Descends place m (Err e) m' → Begins part m (Err e) m'
-  stops_with (halt.Throw t) m' here d = absurd (d (λ r s. Done (Comes r s)) (part_of (context_of m.context) part) here)
-  stops_with (halt.Fault c p) m' here d = record { goes = λ last. d last (part_of (context_of m.context) part) here; light = tt }
-  stops_with (halt.LeftOut n p) m' here d = record { goes = λ last. d last (part_of (context_of m.context) part) here; light = tt }
+  stops_with : (e : Halt) (m' : Machine) → part_place part ≡ place → Descends place m (Err e) m' → Begins part m (Err e) m'
+  stops_with (halt.Throw t) m' here d = absurd (d (λ r s. Done (Comes r s)) (context_of m.context) part here)
+  stops_with (halt.Fault c p) m' here d = record { goes = λ last. d last (context_of m.context) part here; light = tt }
+  stops_with (halt.LeftOut n p) m' here d = record { goes = λ last. d last (context_of m.context) part here; light = tt }
   stops_with halt.Memory m' here d = record { goes = λ last. tt; light = tt }
 
   -- where it isn't, the run is at its end
   pub begins_stopped : (r : Result Now Halt) (e : Halt) (m' : Machine) → IsErrAnd r (λ x. x ≡ e)
-      → part_place (part_of (context_of m.context) part) ≡ place → Descends place m (Err e) m' → Begins part m r m'
+      → part_place part ≡ place → Descends place m (Err e) m' → Begins part m r m'
   begins_stopped (Ok what) e m' i here d = absurd i
   begins_stopped (Err x) e m' i here d = subst (λ y. Begins part m (Err y) m') (sym i) (stops_with e m' here d)
 
@@ -88,9 +88,9 @@ module _ (place : Place) (m begun : Machine) (r : Result Now Halt) (m' : Machine
       (subst (λ (cx : Around). Moves (statement.statement_node by_slots (functions_of begun) (inner begun) (context_of cx) s.now) begun r m') d.around k)
 
   pub begins_target : (e : Bor ExpressionTree) → expression_place e.now ≡ place
-      → Moves (at begun (expression.target_node by_slots) e.now) begun r m' → Begins (part.Target e) m r m'
+      → Refers (at begun (expression.target_node by_slots) e.now) begun r m' → Begins (part.Target e) m r m'
   begins_target e here k = begins_with (part.Target e) place m begun r m' here d
-      (subst (λ (cx : Around). Moves (expression.target_node by_slots (functions_of begun) (inner begun) (context_of cx) e.now) begun r m') d.around k)
+      (subst (λ (cx : Around). Refers (expression.target_node by_slots (functions_of begun) (inner begun) (context_of cx) e.now) begun r m') d.around k)
 
   pub begins_declare : (all : Bor (List Declared)) → Moves (at begun (statement.variables_from by_slots) place (declarations_of all.now)) begun r m'
       → Begins (part.Declare place all) m r m'

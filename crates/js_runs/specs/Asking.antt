@@ -11,6 +11,7 @@ use Rattle.run_trees.specs.declared.abrupt.Abrupt.TheVariants as ending
 use Rattle.run_trees.specs.RunTree.{Walked, Ended, Stopped, walk}
 use Rattle.js_evaluation.specs.State.{RunEnd, Faults, AfterValue}
 use Rattle.js_evaluation.specs.Handed.{gives}
+use Rattle.js_frames.specs.Rests.{giving}
 use Rattle.heap_steps.specs.declared.halt.Halt.{Halt}
 use Rattle.heap_steps.specs.declared.halt.Halt.TheVariants as halt
 use Rattle.heap_steps.specs.Works.{plain_fault, left_out}
@@ -31,7 +32,7 @@ GoesOver last walked (Err halt.Memory) m seen = Unit {0}
 
 -- a call gave this value, which is given back
 pub record GivesBack (v : Value) (place : Place) (m : Machine) (r : Result Now Halt) (m' : Machine) : Type 0 where
-  pub goes : (last : AfterValue) → Goes last (left last m (gives v place)) r m'
+  pub goes : (last : AfterValue) → Goes last (left last m (giving (gives v place))) r m'
   pub light : Light (weight m + 2) r m'
 
 -- what a call does to the alerts that are kept

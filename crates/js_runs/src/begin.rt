@@ -1,8 +1,9 @@
 // A part is begun.
 ghost use Rattle.js_runs.specs.Closes.{Begins};
 
-use js_entries::{OUTSIDE, call_node, construct_node, load_node};
+use js_entries::{call_node, construct_node, load_node};
 use js_expressions::{expression_node, target_node};
+use js_frames::OUTSIDE;
 use js_machine::{Machine, Part, Step};
 use js_statements::{statement_node, variables_from};
 

@@ -4,9 +4,10 @@ ghost use Rattle.js_machine.specs.declared.now.Now.TheVariants.{Begin};
 ghost use Rattle.js_runs.specs.Closes.{Closes, KeptAtEnd, handed_on};
 
 use crate::asking::call_host;
-use crate::back::{back, stopped};
+use crate::back::{back, referred, stopped};
 use crate::begin::begin;
 use heap_steps::Halt;
+use heap_values::Value;
 use js_frames::{EndKind, Open};
 use js_host::Host;
 use js_machine::{End, Machine, Now, Part, Step};
@@ -87,6 +88,13 @@ pub fn run_on<'p, H: Host>(
                 Some(Open { context, frame }) => {
                     machine.context = context;
                     now = handed_on(back(machine, frame, value))?
+                }
+            },
+            Now::Refers(reference) => match machine.frames.pop() {
+                None => return Ok(Ok(Value::Undefined)),
+                Some(Open { context, frame }) => {
+                    machine.context = context;
+                    now = handed_on(referred(machine, frame, reference))?
                 }
             },
             Now::Back(Err(stop)) => match machine.frames.unwind(EndKind::of(&stop)) {

@@ -36,19 +36,19 @@ in_a_switch m part = λ after. part (at m in_switch after)
 pub switch_stops : (m : Machine) (stop : Stop) (r : Result Value Stop) → r ≡ switch_end stop
     → Moves (λ after. at m in_switch after (Err stop)) m (Ok (now.Back r)) m
 switch_stops m (ending.Thrown t) r e = record {
-  goes = λ last. ap (λ (q : Result Value Stop). rest_of (functions_of m) last m.frames q (run_state m.state)) (sym e);
+  goes = λ last. ap (λ (q : Result Value Stop). (rest_of (functions_of m) last m.frames).given q (run_state m.state)) (sym e);
   light = omega arith;
 }
 switch_stops m (ending.Returned v) r e = record {
-  goes = λ last. ap (λ (q : Result Value Stop). rest_of (functions_of m) last m.frames q (run_state m.state)) (sym e);
+  goes = λ last. ap (λ (q : Result Value Stop). (rest_of (functions_of m) last m.frames).given q (run_state m.state)) (sym e);
   light = omega arith;
 }
 switch_stops m (ending.Broken t) r e = record {
-  goes = λ last. ap (λ (q : Result Value Stop). rest_of (functions_of m) last m.frames q (run_state m.state)) (sym e);
+  goes = λ last. ap (λ (q : Result Value Stop). (rest_of (functions_of m) last m.frames).given q (run_state m.state)) (sym e);
   light = omega arith;
 }
 switch_stops m (ending.Continued t) r e = record {
-  goes = λ last. ap (λ (q : Result Value Stop). rest_of (functions_of m) last m.frames q (run_state m.state)) (sym e);
+  goes = λ last. ap (λ (q : Result Value Stop). (rest_of (functions_of m) last m.frames).given q (run_state m.state)) (sym e);
   light = omega arith;
 }
 

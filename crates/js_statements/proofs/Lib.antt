@@ -5,4 +5,5 @@ pub mod Nodes
 pub mod Parts
 pub mod Rows
 pub mod Scopes
+pub mod Targets
 pub mod Turns

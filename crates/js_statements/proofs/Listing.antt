@@ -17,6 +17,7 @@ use Rattle.js_frames.specs.Parts.{context_of}
 use Rattle.js_evaluation.specs.Statements as rule
 use Rattle.js_evaluation.specs.Parts.{Within}
 use Rattle.js_evaluation.specs.Scoping.{by_slots}
+use Rattle.js_frames.specs.Rests.{giving, ◌>=>◌}
 use Rattle.js_frames.specs.RestOf.{names_from, rest_of}
 use Rattle.heap_steps.specs.declared.halt.Halt.{Halt}
 use Rattle.heap_steps.specs.Works.{state_with, Beside}
@@ -24,11 +25,11 @@ use Rattle.js_machine.specs.declared.machine.Machine.{Machine}
 use Rattle.js_machine.specs.declared.machine.State.{State}
 use Rattle.js_machine.specs.declared.now.Now.{Now}
 use Rattle.js_machine.specs.declared.now.Now.TheVariants as now
-use Rattle.js_machine.specs.Moves.{Moves, at, evaluated, executed, functions_of, inner, left, resumed, beside_of}
+use Rattle.js_machine.specs.Moves.{Leads, Moves, at, evaluated, executed, functions_of, inner, left, resumed, beside_of}
 use Rattle.js_machine.specs.Acts.{Acts}
 use Rattle.js_statements.specs.Loops.{listed_in, is_listed_in, with_name}
 use Rattle.js_machine.proofs.Acting.{with_state, acts_then, acts_stops}
-use Rattle.js_statements.proofs.Parts.{moves_as, moves_by}
+use Rattle.js_statements.proofs.Parts.{moves_as, leads_by}
 
 module _ (functions : List FunctionTree) (go : Within) (cx : Context) (h : HeapView) (fuel : ℕ) (beside : Beside) where
   -- the names that are listed are those of the heap
@@ -67,50 +68,50 @@ module _ (functions : List FunctionTree) (go : Within) (cx : Context) (h : HeapV
 -- the names are listed and charged, and then the first of them has its turn
 module _ (m : Machine) (l : ForInLoop) (object : Value) (names : List (List ℕ)) (s : State) (are : names ≡ listed_in m.state.heap object) where
   lists_those : (last : AfterValue)
-      → left last m (at m resumed (frame.Loop (of_loop.ForInObject l)) (Ok object)) ≡ left last m (rule.charged_names l.place names >> at m names_from l object names)
+      → left last m (at m resumed (frame.Loop (of_loop.ForInObject l)) (Ok object)) ≡ left last m (giving (rule.charged_names l.place names >> at m names_from l object names))
   lists_those last =
       lists (functions_of m) (inner m) (context_of m.context) m.state.heap m.state.fuel (beside_of m.state) object
-      (onward (λ ns. rule.charged_names l.place ns >> at m names_from l object ns) (rest_of (functions_of m) last m.frames))
-      ∙ ap (λ (ns : List (List ℕ)). left last m (rule.charged_names l.place ns >> at m names_from l object ns)) (sym are)
+      (onward (λ ns. rule.charged_names l.place ns >> at m names_from l object ns) (rest_of (functions_of m) last m.frames).given)
+      ∙ ap (λ (ns : List (List ℕ)). left last m (giving (rule.charged_names l.place ns >> at m names_from l object ns))) (sym are)
 
   pub lists_then : (r : Result Now Halt) (m' : Machine) → Acts (rule.charged_names l.place names) m.state (Ok tt) s
-      → Moves (at m names_from l object names) (with_state m s) r m' → Moves (at m resumed (frame.Loop (of_loop.ForInObject l)) (Ok object)) m r m'
+      → Moves (at m names_from l object names) (with_state m s) r m' → Leads (at m resumed (frame.Loop (of_loop.ForInObject l)) (Ok object)) m r m'
   lists_then r m' w k = moves_as r lists_those (acts_then (rule.charged_names l.place names) (λ _. at m names_from l object names) m s tt r m' w k)
 
   pub lists_stops : (r : Result Now Halt) (e : Halt) → IsErrAnd r (λ x. x ≡ e) → Acts (rule.charged_names l.place names) m.state (Err e) s
-      → Moves (at m resumed (frame.Loop (of_loop.ForInObject l)) (Ok object)) m r (with_state m s)
+      → Leads (at m resumed (frame.Loop (of_loop.ForInObject l)) (Ok object)) m r (with_state m s)
   lists_stops r e i w = moves_as r lists_those (acts_stops (rule.charged_names l.place names) (λ _. at m names_from l object names) m s r e i w)
 
 module _ {m m' : Machine} {r : Result Now Halt} (l : ForInLoop) where
   -- the first value of a declared name, by what the target is
   pub first_by : (object : ExpressionTree) (t : ForTarget) → l.target.now ≡ t
-      → Moves (at m (rule.first_of by_slots) l.place (target_of t) >> at m evaluated object (frame.Loop (of_loop.ForInObject l))) m r m'
+      → Leads (at m (rule.first_of by_slots) l.place (target_of t) >=> (λ _. at m evaluated object (frame.Loop (of_loop.ForInObject l)))) m r m'
       → Moves (at m (rule.for_in_loop by_slots) l.place (target_of l.target.now) object l.body.now) m r m'
-  first_by object t e k = moves_by (ap (λ (x : ForTarget). at m (rule.first_of by_slots) l.place (target_of x) >> at m evaluated object (frame.Loop (of_loop.ForInObject l))) e) k
+  first_by object t e k = leads_by (ap (λ (x : ForTarget). at m (rule.first_of by_slots) l.place (target_of x) >=> (λ _. at m evaluated object (frame.Loop (of_loop.ForInObject l)))) e) k
 
   module _ (object : Value) (name : List ℕ) (names : List (List ℕ)) where
     -- the turn of a name, by what the target is
     pub named_by : (t : ForTarget) → l.target.now ≡ t
-        → Moves (at m (rule.named_by by_slots) l.place (target_of t) name >> at m executed l.body.now (frame.Loop (of_loop.ForInBody object names l))) m r m'
+        → Leads (at m (rule.named_by by_slots) l.place (target_of t) name >=> (λ _. at m executed l.body.now (frame.Loop (of_loop.ForInBody object names l)))) m r m'
         → Moves (at m with_name name object names l) m r m'
-    named_by t e k = moves_by (ap (λ (x : ForTarget). at m (rule.named_by by_slots) l.place (target_of x) name >> at m executed l.body.now (frame.Loop (of_loop.ForInBody object names l))) e) k
+    named_by t e k = leads_by (ap (λ (x : ForTarget). at m (rule.named_by by_slots) l.place (target_of x) name >=> (λ _. at m executed l.body.now (frame.Loop (of_loop.ForInBody object names l)))) e) k
 
 -- the next of the names that are left
 module _ (m : Machine) (l : ForInLoop) (object : Value) (all left_now : List (List ℕ))
-    (same : (last : AfterValue) → left last m (at m names_from l object all) ≡ left last m (at m names_from l object left_now)) where
+    (same : (last : AfterValue) → left last m (giving (at m names_from l object all)) ≡ left last m (giving (at m names_from l object left_now))) where
   -- none is left
   pub names_end : left_now ≡ [] → Moves (at m names_from l object all) m (Ok (now.Back (Ok value.Undefined))) m
-  names_end none = record { goes = λ last. same last ∙ ap (λ (ns : List (List ℕ)). left last m (at m names_from l object ns)) none; light = omega arith }
+  names_end none = record { goes = λ last. same last ∙ ap (λ (ns : List (List ℕ)). left last m (giving (at m names_from l object ns))) none; light = omega arith }
 
   module _ (name : List ℕ) (names : List (List ℕ)) (next : left_now ≡ name ∷ names) where
     pub turn_kept : {r : Result Now Halt} {m' : Machine} → is_listed_in m.state.heap object name ≡ true
         → Moves (at m with_name name object names l) m r m' → Moves (at m names_from l object all) m r m'
     turn_kept {r} e k = moves_as r (λ last.
-        same last ∙ ap (λ (ns : List (List ℕ)). left last m (at m names_from l object ns)) next
-        ∙ kept (functions_of m) (inner m) (context_of m.context) m.state.heap m.state.fuel (beside_of m.state) l name names (rest_of (functions_of m) last m.frames) object e) k
+        same last ∙ ap (λ (ns : List (List ℕ)). left last m (giving (at m names_from l object ns))) next
+        ∙ kept (functions_of m) (inner m) (context_of m.context) m.state.heap m.state.fuel (beside_of m.state) l name names (rest_of (functions_of m) last m.frames).given object e) k
 
     pub turn_gone : is_listed_in m.state.heap object name ≡ false
-        → (last : AfterValue) → left last m (at m names_from l object all) ≡ left last m (at m names_from l object names)
+        → (last : AfterValue) → left last m (giving (at m names_from l object all)) ≡ left last m (giving (at m names_from l object names))
     turn_gone e last =
-        same last ∙ ap (λ (ns : List (List ℕ)). left last m (at m names_from l object ns)) next
-        ∙ gone (functions_of m) (inner m) (context_of m.context) m.state.heap m.state.fuel (beside_of m.state) l name names (rest_of (functions_of m) last m.frames) object e
+        same last ∙ ap (λ (ns : List (List ℕ)). left last m (giving (at m names_from l object ns))) next
+        ∙ gone (functions_of m) (inner m) (context_of m.context) m.state.heap m.state.fuel (beside_of m.state) l name names (rest_of (functions_of m) last m.frames).given object e

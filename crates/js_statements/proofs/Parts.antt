@@ -9,12 +9,13 @@ use Rattle.heap_steps.specs.declared.halt.Halt.TheVariants as halt
 use Rattle.heap_steps.specs.Works.{Works}
 use Rattle.js_machine.specs.declared.machine.Machine.{Machine}
 use Rattle.js_machine.specs.declared.now.Now.{Now}
-use Rattle.js_machine.specs.Moves.{Moves, left}
+use Rattle.js_frames.specs.Rests.{DoesEither}
+use Rattle.js_machine.specs.Moves.{Leads, Moves, left}
 use Rattle.js_machine.proofs.Steps.{with_heap}
 
 -- a machine that goes on from a part goes on from each part of which the same is left
-pub moves_as : {p q : Does Value} {m m' : Machine} (r : Result Now Halt)
-    → ((last : AfterValue) → left last m p ≡ left last m q) → Moves q m r m' → Moves p m r m'
+pub moves_as : {p q : DoesEither} {m m' : Machine} (r : Result Now Halt)
+    → ((last : AfterValue) → left last m p ≡ left last m q) → Leads q m r m' → Leads p m r m'
 moves_as (Ok what) e k = record { goes = λ last. e last ∙ k.goes last; light = k.light }
 moves_as (Err (halt.Throw thrown)) e k = record { goes = λ last. e last ∙ k.goes last; light = k.light }
 moves_as (Err (halt.Fault c p)) e k = record { goes = λ last. e last ∙ k.goes last; light = tt }
@@ -22,6 +23,9 @@ moves_as (Err (halt.LeftOut n p)) e k = record { goes = λ last. e last ∙ k.go
 moves_as (Err halt.Memory) e k = record { goes = λ last. tt; light = tt }
 
 -- the same of a part that is another
+pub leads_by : {p q : DoesEither} {m m' : Machine} {r : Result Now Halt} → p ≡ q → Leads q m r m' → Leads p m r m'
+leads_by {m = m} {m' = m'} {r = r} e k = subst (λ (x : DoesEither). Leads x m r m') (sym e) k
+
 pub moves_by : {p q : Does Value} {m m' : Machine} {r : Result Now Halt} → p ≡ q → Moves q m r m' → Moves p m r m'
 moves_by {m = m} {m' = m'} {r = r} e k = subst (λ (x : Does Value). Moves x m r m') (sym e) k
 

@@ -10,18 +10,17 @@ use Rattle.js_convert.specs.Numeric.{truth_of}
 use Rattle.run_trees.specs.Runs.{pure, ◌>>=◌, ◌>>◌}
 use Rattle.js_evaluation.specs.State.{Does}
 use Rattle.js_evaluation.specs.Objects.{Context}
-use Rattle.js_frames.specs.declared.frame.Frame.TheVariants as frame
-use Rattle.js_frames.specs.declared.statement_frame.LoopFrame.TheVariants as of_loop
 use Rattle.js_frames.specs.declared.statement_frame.WhileLoop.{WhileLoop}
 use Rattle.js_frames.specs.declared.statement_frame.ForLoop.{ForLoop}
 use Rattle.js_evaluation.specs.Statements as rule
-use Rattle.js_evaluation.specs.Parts.{Within}
+use Rattle.js_evaluation.specs.Parts.{Within, execute}
 use Rattle.js_evaluation.specs.Scoping.{by_slots}
-use Rattle.js_frames.specs.RestOf.{while_turns, do_turns, for_turns, for_next}
+use Rattle.js_frames.specs.Parts.{context_of}
+use Rattle.js_frames.specs.RestOf.{while_turns, do_turns, for_turns, for_next, turned_to}
 use Rattle.heap_steps.specs.declared.halt.Halt.{Halt}
 use Rattle.js_machine.specs.declared.machine.Machine.{Machine}
 use Rattle.js_machine.specs.declared.now.Now.{Now}
-use Rattle.js_machine.specs.Moves.{Moves, at, executed, visited}
+use Rattle.js_machine.specs.Moves.{Moves, at, inner, visited}
 use Rattle.js_statements.proofs.Parts.{moves_by}
 
 module _ (functions : List FunctionTree) (go : Within) (cx : Context) where
@@ -43,7 +42,7 @@ module _ (m : Machine) (n : ℕ) (l : ForLoop) where
 
   -- the body, where the condition has a value that is true
   abbrev body_if : Value → Does Value
-  body_if v = if truth_of v then at m executed l.body.now (frame.Loop (of_loop.ForBody n l)) else pure value.Undefined
+  body_if v = if truth_of v then (λ after. execute (inner m) (context_of m.context) l.body.now (at m turned_to (at m for_next n l) after)) else pure value.Undefined
 
   abbrev pub tested : OptionalExpression → Does Value
   tested c = held c >>= body_if

@@ -19,6 +19,7 @@ use Rattle.js_frames.specs.declared.frame.Frame.TheVariants as frame
 use Rattle.js_frames.specs.declared.statement_frame.ForLoop.{ForLoop}
 use Rattle.js_frames.specs.declared.statement_frame.ForInLoop.{ForInLoop}
 use Rattle.js_frames.specs.declared.statement_frame.LoopFrame.TheVariants as of_loop
+use Rattle.js_frames.specs.Rests.{DoesEither, ◌>=>◌}
 use Rattle.js_frames.specs.RestOf.{for_turns, names_from, turned_to}
 use Rattle.js_evaluation.specs.Statements as rule
 use Rattle.js_evaluation.specs.Parts.{Within, execute}
@@ -59,8 +60,9 @@ module _ (functions : List FunctionTree) (go : Within) (cx : Context) where
   for_loop start l = rule.started by_slots functions go cx start >> for_begun l
 
   -- a `for`-`in` loop of a declared name
-  abbrev pub declared_in : BoundName → OptionalExpression → ExpressionTree → ForInLoop → Does Value
-  declared_in name first object l = rule.declared by_slots functions go cx l.place name first >> evaluated functions go cx object (frame.Loop (of_loop.ForInObject l))
+  abbrev pub declared_in : BoundName → OptionalExpression → ExpressionTree → ForInLoop → DoesEither
+  declared_in name first object l =
+      rule.declared by_slots functions go cx l.place name first >=> (λ _. evaluated functions go cx object (frame.Loop (of_loop.ForInObject l)))
 
   -- a name is written to the target, and then the body is executed
   abbrev pub with_name : List ℕ → Value → List (List ℕ) → ForInLoop → Does Value

@@ -5,7 +5,7 @@ ghost use Rattle.js_evaluation.specs.Statements as rule;
 ghost use Rattle.js_evaluation.specs.Scoping.{by_slots};
 ghost use Rattle.js_frames.specs.declared.frame.Frame.TheVariants as frame;
 ghost use Rattle.js_frames.specs.declared.statement_frame.StatementFrame.TheVariants as of_statement;
-ghost use Rattle.js_machine.specs.Moves.{Moves, at, resumed};
+ghost use Rattle.js_machine.specs.Moves.{Leads, Moves, at, resumed};
 ghost use Rattle.js_statements.specs.Attempts as spec;
 
 use heap_steps::make_scope;
@@ -52,7 +52,7 @@ pub fn block_stopped<'p>(
     last: &'p Option<Box<Statement>>,
     stop: Abrupt<Thrown, Value, ()>,
 ) -> Step<'p>
-    ensures { Moves (at machine.old resumed (frame.Statement (of_statement.TryBlock place handler.entry last.entry)) (Err stop)) machine.old result machine.new }
+    ensures { Leads (at machine.old resumed (frame.Statement (of_statement.TryBlock place handler.entry last.entry)) (Err stop)) machine.old result machine.new }
 {
     match handler {
         None => ended(machine, last, Err(stop)),

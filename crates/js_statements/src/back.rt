@@ -1,7 +1,9 @@
 // What comes back with a value to an open statement.
 ghost use Rattle.std.specs.Prelude.{Ok};
+ghost use Rattle.js_frames.specs.Parts.{reference_of};
+ghost use Rattle.js_frames.specs.RestOf.{rest_of_target};
 ghost use Rattle.js_frames.specs.declared.frame.Frame.TheVariants as frame;
-ghost use Rattle.js_machine.specs.Moves.{Moves, at, resumed};
+ghost use Rattle.js_machine.specs.Moves.{Leads, Moves, at, resumed};
 
 use crate::attempts::ended;
 use crate::for_in::{first_named, listed, next_name, targeted};
@@ -13,7 +15,7 @@ use crate::variables::initialized;
 use heap_steps::Halt;
 use heap_values::Value;
 use js_evaluation::Thrown;
-use js_frames::{LoopFrame, StatementFrame};
+use js_frames::{LoopFrame, Reference, StatementFrame};
 use js_machine::{Machine, Now, Step};
 use run_trees::Abrupt;
 
@@ -23,7 +25,7 @@ pub fn statement_back<'p>(
     part: StatementFrame<'p>,
     value: Value,
 ) -> Step<'p>
-    ensures { Moves (at machine.old resumed (frame.Statement part.entry) (Ok value)) machine.old result machine.new }
+    ensures { Leads (at machine.old resumed (frame.Statement part.entry) (Ok value)) machine.old result machine.new }
 {
     match part {
         StatementFrame::Statements { rest } => statements_from(machine, rest),
@@ -48,7 +50,7 @@ pub fn statement_back<'p>(
 
 /// A part within a loop has a value.
 pub fn loop_back<'p>(machine: &mut Machine<'p>, part: LoopFrame<'p>, value: Value) -> Step<'p>
-    ensures { Moves (at machine.old resumed (frame.Loop part.entry) (Ok value)) machine.old result machine.new }
+    ensures { Leads (at machine.old resumed (frame.Loop part.entry) (Ok value)) machine.old result machine.new }
 {
     match part {
         LoopFrame::WhileCondition { turns, looped } => while_tested(machine, turns, looped, &value),
@@ -65,17 +67,30 @@ pub fn loop_back<'p>(machine: &mut Machine<'p>, part: LoopFrame<'p>, value: Valu
             looped,
         } => first_named(machine, name, value, object, looped),
         LoopFrame::ForInObject { looped } => listed(machine, value, looped),
-        LoopFrame::ForInTarget {
-            target,
-            name,
-            object,
-            names,
-            looped,
-        } => targeted(machine, target, &value, name, object, names, looped),
+        LoopFrame::ForInTarget { .. } => Ok(Now::Back(Ok(value))),
         LoopFrame::ForInBody {
             object,
             names,
             looped,
         } => next_name(machine, object, names, looped),
+    }
+}
+
+/// An expression within a loop refers to this. Where a value is waited for it is none, which comes up in no run.
+pub fn loop_referred<'p>(
+    machine: &mut Machine<'p>,
+    part: LoopFrame<'p>,
+    reference: &Reference<'p>,
+) -> Step<'p>
+    ensures { Moves (at machine.old rest_of_target part.entry (reference_of reference.entry.now)) machine.old result machine.new }
+{
+    match part {
+        LoopFrame::ForInTarget {
+            name,
+            object,
+            names,
+            looped,
+        } => targeted(machine, reference, name, object, names, looped),
+        part => loop_back(machine, part, Value::Undefined),
     }
 }

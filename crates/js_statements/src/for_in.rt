@@ -4,18 +4,19 @@ ghost use Rattle.js_tree.specs.Tree.{optional_of};
 ghost use Rattle.js_tree.specs.View.{target_of};
 ghost use Rattle.js_evaluation.specs.Statements as rule;
 ghost use Rattle.js_evaluation.specs.Scoping.{by_slots};
-ghost use Rattle.js_frames.specs.RestOf.{names_from};
+ghost use Rattle.js_frames.specs.Parts.{reference_of};
+ghost use Rattle.js_frames.specs.RestOf.{names_from, rest_of_target};
 ghost use Rattle.js_frames.specs.declared.frame.Frame.TheVariants as frame;
 ghost use Rattle.js_frames.specs.declared.statement_frame.LoopFrame.TheVariants as of_loop;
-ghost use Rattle.js_machine.specs.Moves.{Moves, at, evaluated, executed, resumed};
+ghost use Rattle.js_machine.specs.Moves.{Leads, Moves, at, evaluated, executed, resumed};
 ghost use Rattle.js_statements.specs.Loops as spec;
 
 use crate::listed::{charge_names, is_listed, listed_names};
 use heap_steps::write_name;
 use heap_values::Value;
 use js_evaluation::Thrown;
-use js_frames::{ForInLoop, Frame, LoopFrame, NamesLeft};
-use js_machine::{Machine, Now, Step, referred, write_reference};
+use js_frames::{ForInLoop, Frame, LoopFrame, NamesLeft, Reference};
+use js_machine::{Machine, Now, Step, write_reference};
 use js_tree::{BoundName, Declared, Expression, ForTarget};
 use run_trees::Abrupt;
 use utf16_text::Text;
@@ -40,7 +41,7 @@ fn object_of<'p>(
     object: &'p Expression,
     looped: ForInLoop<'p>,
 ) -> Step<'p>
-    ensures { Moves (at machine.old evaluated object.entry.now (frame.Loop (of_loop.ForInObject looped.entry))) machine.old result machine.new }
+    ensures { Leads (at machine.old evaluated object.entry.now (frame.Loop (of_loop.ForInObject looped.entry))) machine.old result machine.new }
 {
     machine.evaluate(object, Frame::Loop(LoopFrame::ForInObject { looped }))
 }
@@ -52,7 +53,7 @@ fn declared_in<'p>(
     object: &'p Expression,
     looped: ForInLoop<'p>,
 ) -> Step<'p>
-    ensures { Moves (at machine.old spec.declared_in declared.entry.now.name (optional_of declared.entry.now.value) object.entry.now looped.entry) machine.old result machine.new }
+    ensures { Leads (at machine.old spec.declared_in declared.entry.now.name (optional_of declared.entry.now.value) object.entry.now looped.entry) machine.old result machine.new }
 {
     match &declared.value {
         None => object_of(machine, object, looped),
@@ -76,7 +77,7 @@ pub fn first_named<'p>(
     object: &'p Expression,
     looped: ForInLoop<'p>,
 ) -> Step<'p>
-    ensures { Moves (at machine.old resumed (frame.Loop (of_loop.ForInFirst name.entry object.entry looped.entry)) (Ok value)) machine.old result machine.new }
+    ensures { Leads (at machine.old resumed (frame.Loop (of_loop.ForInFirst name.entry object.entry looped.entry)) (Ok value)) machine.old result machine.new }
 {
     let scope = machine.context.scope;
     let heap = &mut machine.state.heap;
@@ -86,7 +87,7 @@ pub fn first_named<'p>(
 
 /// The object is there: its names are listed, and each is charged.
 pub fn listed<'p>(machine: &mut Machine<'p>, object: Value, looped: ForInLoop<'p>) -> Step<'p>
-    ensures { Moves (at machine.old resumed (frame.Loop (of_loop.ForInObject looped.entry)) (Ok object)) machine.old result machine.new }
+    ensures { Leads (at machine.old resumed (frame.Loop (of_loop.ForInObject looped.entry)) (Ok object)) machine.old result machine.new }
 {
     let names = listed_names(machine.alloc, &machine.state.heap, &object)?;
     charge_names(&mut machine.state, names.as_slice(), looped.place)?;
@@ -124,7 +125,6 @@ fn with_name<'p>(
     match looped.target {
         ForTarget::Expression(target) => {
             let frame = LoopFrame::ForInTarget {
-                target,
                 name,
                 object,
                 names,
@@ -156,7 +156,7 @@ fn names_body<'p>(
     names: NamesLeft,
     looped: ForInLoop<'p>,
 ) -> Step<'p>
-    ensures { Moves (at machine.old executed looped.entry.body.now (frame.Loop (of_loop.ForInBody object names looped.entry))) machine.old result machine.new }
+    ensures { Leads (at machine.old executed looped.entry.body.now (frame.Loop (of_loop.ForInBody object names looped.entry))) machine.old result machine.new }
 {
     let frame = LoopFrame::ForInBody {
         object,
@@ -166,23 +166,21 @@ fn names_body<'p>(
     machine.execute(looped.body, Frame::Loop(frame))
 }
 
-/// The target of a name is there.
+/// The target refers to this, to which a name is written.
 pub fn targeted<'p>(
     machine: &mut Machine<'p>,
-    target: &'p Expression,
-    key: &Value,
+    reference: &Reference<'p>,
     name: Text,
     object: Value,
     names: NamesLeft,
     looped: ForInLoop<'p>,
 ) -> Step<'p>
-    ensures { Moves (at machine.old resumed (frame.Loop (of_loop.ForInTarget target.entry name object names looped.entry)) (Ok key.now)) machine.old result machine.new }
+    ensures { Moves (at machine.old rest_of_target (of_loop.ForInTarget name object names looped.entry) (reference_of reference.entry.now)) machine.old result machine.new }
 {
-    let reference = referred(machine.alloc, target, key, &machine.state.base)?;
     let scope = machine.context.scope;
     let heap = &mut machine.state.heap;
     let name = Value::Text(name);
-    write_reference(machine.alloc, heap, scope, &reference, name, looped.place)?;
+    write_reference(machine.alloc, heap, scope, reference, name, looped.place)?;
     names_body(machine, object, names, looped)
 }
 
@@ -194,7 +192,7 @@ pub fn names_stopped<'p>(
     looped: ForInLoop<'p>,
     stop: Abrupt<Thrown, Value, ()>,
 ) -> Step<'p>
-    ensures { Moves (at machine.old resumed (frame.Loop (of_loop.ForInBody object names looped.entry)) (Err stop)) machine.old result machine.new }
+    ensures { Leads (at machine.old resumed (frame.Loop (of_loop.ForInBody object names looped.entry)) (Err stop)) machine.old result machine.new }
 {
     match stop {
         Abrupt::Thrown(thrown) => Ok(Now::Back(Err(Abrupt::Thrown(thrown)))),

@@ -4,7 +4,7 @@ ghost use Rattle.js_tree.specs.View.{optional_start, start_of};
 ghost use Rattle.js_frames.specs.RestOf.{for_next, for_turns};
 ghost use Rattle.js_frames.specs.declared.frame.Frame.TheVariants as frame;
 ghost use Rattle.js_frames.specs.declared.statement_frame.LoopFrame.TheVariants as of_loop;
-ghost use Rattle.js_machine.specs.Moves.{Moves, at, executed, resumed};
+ghost use Rattle.js_machine.specs.Moves.{Leads, Moves, at, executed, resumed};
 ghost use Rattle.js_statements.specs.Loops as spec;
 
 use heap_steps::Halt;
@@ -77,7 +77,7 @@ fn for_test<'p>(machine: &mut Machine<'p>, turns: u64, looped: ForLoop<'p>) -> S
 
 /// The body of a turn.
 fn for_body<'p>(machine: &mut Machine<'p>, turns: u64, looped: ForLoop<'p>) -> Step<'p>
-    ensures { Moves (at machine.old executed looped.entry.body.now (frame.Loop (of_loop.ForBody turns looped.entry))) machine.old result machine.new }
+    ensures { Leads (at machine.old executed looped.entry.body.now (frame.Loop (of_loop.ForBody turns looped.entry))) machine.old result machine.new }
 {
     let frame = LoopFrame::ForBody { turns, looped };
     machine.execute(looped.body, Frame::Loop(frame))
@@ -90,7 +90,7 @@ pub fn for_tested<'p>(
     looped: ForLoop<'p>,
     value: &Value,
 ) -> Step<'p>
-    ensures { Moves (at machine.old resumed (frame.Loop (of_loop.ForCondition turns looped.entry)) (Ok value.now)) machine.old result machine.new }
+    ensures { Leads (at machine.old resumed (frame.Loop (of_loop.ForCondition turns looped.entry)) (Ok value.now)) machine.old result machine.new }
 {
     if to_boolean(value) {
         for_body(machine, turns, looped)
@@ -119,7 +119,7 @@ pub fn for_stopped<'p>(
     looped: ForLoop<'p>,
     stop: Abrupt<Thrown, Value, ()>,
 ) -> Step<'p>
-    ensures { Moves (at machine.old resumed (frame.Loop (of_loop.ForBody turns looped.entry)) (Err stop)) machine.old result machine.new }
+    ensures { Leads (at machine.old resumed (frame.Loop (of_loop.ForBody turns looped.entry)) (Err stop)) machine.old result machine.new }
 {
     match stop {
         Abrupt::Thrown(thrown) => Ok(Now::Back(Err(Abrupt::Thrown(thrown)))),

@@ -15,7 +15,7 @@ mod stopped;
 mod switch;
 mod variables;
 
-pub use back::{loop_back, statement_back};
+pub use back::{loop_back, loop_referred, statement_back};
 pub use simple::statements_from;
 pub use statement::statement_node;
 pub use stopped::{loop_stopped, statement_stopped};

@@ -3,7 +3,7 @@ ghost use Rattle.std.specs.Prelude.{Err, Ok};
 ghost use Rattle.js_frames.specs.RestOf.{do_next, do_turns, while_turns};
 ghost use Rattle.js_frames.specs.declared.frame.Frame.TheVariants as frame;
 ghost use Rattle.js_frames.specs.declared.statement_frame.LoopFrame.TheVariants as of_loop;
-ghost use Rattle.js_machine.specs.Moves.{Moves, at, resumed};
+ghost use Rattle.js_machine.specs.Moves.{Leads, Moves, at, resumed};
 ghost use Rattle.js_statements.specs.Loops as spec;
 
 use heap_steps::Halt;
@@ -56,7 +56,7 @@ pub fn while_tested<'p>(
     looped: WhileLoop<'p>,
     value: &Value,
 ) -> Step<'p>
-    ensures { Moves (at machine.old resumed (frame.Loop (of_loop.WhileCondition turns looped.entry)) (Ok value.now)) machine.old result machine.new }
+    ensures { Leads (at machine.old resumed (frame.Loop (of_loop.WhileCondition turns looped.entry)) (Ok value.now)) machine.old result machine.new }
 {
     if to_boolean(value) {
         let frame = LoopFrame::WhileBody { turns, looped };
@@ -73,7 +73,7 @@ pub fn while_stopped<'p>(
     looped: WhileLoop<'p>,
     stop: Abrupt<Thrown, Value, ()>,
 ) -> Step<'p>
-    ensures { Moves (at machine.old resumed (frame.Loop (of_loop.WhileBody turns looped.entry)) (Err stop)) machine.old result machine.new }
+    ensures { Leads (at machine.old resumed (frame.Loop (of_loop.WhileBody turns looped.entry)) (Err stop)) machine.old result machine.new }
 {
     match stop {
         Abrupt::Thrown(thrown) => Ok(Now::Back(Err(Abrupt::Thrown(thrown)))),
@@ -132,7 +132,7 @@ pub fn do_tested<'p>(
     looped: WhileLoop<'p>,
     value: &Value,
 ) -> Step<'p>
-    ensures { Moves (at machine.old resumed (frame.Loop (of_loop.DoCondition turns looped.entry)) (Ok value.now)) machine.old result machine.new }
+    ensures { Leads (at machine.old resumed (frame.Loop (of_loop.DoCondition turns looped.entry)) (Ok value.now)) machine.old result machine.new }
 {
     if to_boolean(value) {
         do_turn(machine, turns, looped)
@@ -148,7 +148,7 @@ pub fn do_stopped<'p>(
     looped: WhileLoop<'p>,
     stop: Abrupt<Thrown, Value, ()>,
 ) -> Step<'p>
-    ensures { Moves (at machine.old resumed (frame.Loop (of_loop.DoBody turns looped.entry)) (Err stop)) machine.old result machine.new }
+    ensures { Leads (at machine.old resumed (frame.Loop (of_loop.DoBody turns looped.entry)) (Err stop)) machine.old result machine.new }
 {
     match stop {
         Abrupt::Thrown(thrown) => Ok(Now::Back(Err(Abrupt::Thrown(thrown)))),

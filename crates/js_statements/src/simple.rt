@@ -5,7 +5,7 @@ ghost use Rattle.js_evaluation.specs.Statements as rule;
 ghost use Rattle.js_evaluation.specs.Scoping.{by_slots};
 ghost use Rattle.js_frames.specs.declared.frame.Frame.TheVariants as frame;
 ghost use Rattle.js_frames.specs.declared.statement_frame.StatementFrame.TheVariants as of_statement;
-ghost use Rattle.js_machine.specs.Moves.{Moves, at, evaluated, resumed};
+ghost use Rattle.js_machine.specs.Moves.{Leads, Moves, at, evaluated, resumed};
 
 use heap_values::Value;
 use js_convert::to_boolean;
@@ -29,7 +29,7 @@ pub fn statements_from<'p>(machine: &mut Machine<'p>, all: &'p [Statement]) -> S
 
 /// The expression of a statement that is nothing else.
 pub fn evaluate_alone<'p>(machine: &mut Machine<'p>, e: &'p Expression) -> Step<'p>
-    ensures { Moves (at machine.old evaluated e.entry.now (frame.Statement of_statement.Evaluate)) machine.old result machine.new }
+    ensures { Leads (at machine.old evaluated e.entry.now (frame.Statement of_statement.Evaluate)) machine.old result machine.new }
 {
     machine.evaluate(e, Frame::Statement(StatementFrame::Evaluate))
 }
@@ -70,7 +70,7 @@ pub fn branched<'p>(
     rest: &'p [Branch],
     last: &'p Option<Box<Statement>>,
 ) -> Step<'p>
-    ensures { Moves (at machine.old resumed (frame.Statement (of_statement.Branch body.entry rest.entry last.entry)) (Ok value.now)) machine.old result machine.new }
+    ensures { Leads (at machine.old resumed (frame.Statement (of_statement.Branch body.entry rest.entry last.entry)) (Ok value.now)) machine.old result machine.new }
 {
     if to_boolean(value) {
         machine.execute(body, Frame::Hold)
@@ -91,7 +91,7 @@ pub fn returned<'p>(machine: &mut Machine<'p>, value: &'p Option<Box<Expression>
 
 /// `throw`.
 pub fn thrown<'p>(machine: &mut Machine<'p>, value: &'p Expression, place: Place) -> Step<'p>
-    ensures { Moves (at machine.old evaluated value.entry.now (frame.Statement (of_statement.Throw place))) machine.old result machine.new }
+    ensures { Leads (at machine.old evaluated value.entry.now (frame.Statement (of_statement.Throw place))) machine.old result machine.new }
 {
     machine.evaluate(value, Frame::Statement(StatementFrame::Throw { place }))
 }

@@ -1,7 +1,7 @@
 // What ends abruptly in an open statement.
 ghost use Rattle.std.specs.Prelude.{Err};
 ghost use Rattle.js_frames.specs.declared.frame.Frame.TheVariants as frame;
-ghost use Rattle.js_machine.specs.Moves.{Moves, at, resumed};
+ghost use Rattle.js_machine.specs.Moves.{Leads, at, resumed};
 
 use crate::attempts::{block_stopped, ended};
 use crate::for_in::names_stopped;
@@ -20,7 +20,7 @@ pub fn statement_stopped<'p>(
     part: StatementFrame<'p>,
     stop: Abrupt<Thrown, Value, ()>,
 ) -> Step<'p>
-    ensures { Moves (at machine.old resumed (frame.Statement part.entry) (Err stop)) machine.old result machine.new }
+    ensures { Leads (at machine.old resumed (frame.Statement part.entry) (Err stop)) machine.old result machine.new }
 {
     match part {
         StatementFrame::SwitchTest { .. } => Ok(Now::Back(switch_end(stop))),
@@ -41,7 +41,7 @@ pub fn loop_stopped<'p>(
     part: LoopFrame<'p>,
     stop: Abrupt<Thrown, Value, ()>,
 ) -> Step<'p>
-    ensures { Moves (at machine.old resumed (frame.Loop part.entry) (Err stop)) machine.old result machine.new }
+    ensures { Leads (at machine.old resumed (frame.Loop part.entry) (Err stop)) machine.old result machine.new }
 {
     match part {
         LoopFrame::WhileBody { turns, looped } => while_stopped(machine, turns, looped, stop),

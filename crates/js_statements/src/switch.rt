@@ -4,7 +4,7 @@ ghost use Rattle.js_tree.specs.Tree.{statements_of};
 ghost use Rattle.js_tree.specs.View.{clauses_of};
 ghost use Rattle.js_frames.specs.declared.frame.Frame.TheVariants as frame;
 ghost use Rattle.js_frames.specs.declared.statement_frame.StatementFrame.TheVariants as of_statement;
-ghost use Rattle.js_machine.specs.Moves.{Moves, at, evaluated, resumed};
+ghost use Rattle.js_machine.specs.Moves.{Leads, Moves, at, evaluated, resumed};
 ghost use Rattle.js_statements.specs.Switches as spec;
 
 use heap_values::Value;
@@ -21,7 +21,7 @@ pub fn switched<'p>(
     value: &'p Expression,
     clauses: &'p [Clause],
 ) -> Step<'p>
-    ensures { Moves (at machine.old evaluated value.entry.now (frame.Statement (of_statement.SwitchValue clauses.entry))) machine.old result machine.new }
+    ensures { Leads (at machine.old evaluated value.entry.now (frame.Statement (of_statement.SwitchValue clauses.entry))) machine.old result machine.new }
 {
     let frame = StatementFrame::SwitchValue { clauses };
     machine.evaluate(value, Frame::Statement(frame))
@@ -109,7 +109,7 @@ pub fn compared<'p>(
     body: &'p [Statement],
     rest: &'p [Clause],
 ) -> Step<'p>
-    ensures { Moves (at machine.old resumed (frame.Statement (of_statement.SwitchTest value all.entry body.entry rest.entry)) (Ok tested.now)) machine.old result machine.new }
+    ensures { Leads (at machine.old resumed (frame.Statement (of_statement.SwitchTest value all.entry body.entry rest.entry)) (Ok tested.now)) machine.old result machine.new }
 {
     if strict_equals(&value, tested) {
         body_from(machine, body, rest)

@@ -5,7 +5,7 @@ ghost use Rattle.js_evaluation.specs.Scoping.{by_slots};
 ghost use Rattle.js_frames.specs.declared.frame.Frame.TheVariants as frame;
 ghost use Rattle.js_frames.specs.declared.statement_frame.StatementFrame.TheVariants as of_statement;
 ghost use Rattle.std.specs.Prelude.{Ok};
-ghost use Rattle.js_machine.specs.Moves.{Moves, at, resumed};
+ghost use Rattle.js_machine.specs.Moves.{Leads, Moves, at, resumed};
 
 use heap_steps::write_name;
 use heap_values::Value;
@@ -37,7 +37,7 @@ pub fn initialized<'p>(
     place: Place,
     rest: &'p [Declared],
 ) -> Step<'p>
-    ensures { Moves (at machine.old resumed (frame.Statement (of_statement.Var name.entry place rest.entry)) (Ok value)) machine.old result machine.new }
+    ensures { Leads (at machine.old resumed (frame.Statement (of_statement.Var name.entry place rest.entry)) (Ok value)) machine.old result machine.new }
 {
     let scope = machine.context.scope;
     write_name(

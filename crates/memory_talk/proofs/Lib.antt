@@ -7,3 +7,12 @@ pub mod Told
 pub mod Agreeing
 pub mod Addresses
 pub mod Same
+mod Few
+mod Lacking
+mod Taking
+mod Prompt
+mod Early
+pub mod Replied
+pub mod Room
+pub mod Front
+pub mod There

@@ -21,7 +21,7 @@ use Rattle.memory_talk.specs.Laws.{IsLogOf, OneLog}
 
 -- ---- numbers
 
-length_numbers : (n : ℕ) → length (first_numbers n) ≡ n
+pub length_numbers : (n : ℕ) → length (first_numbers n) ≡ n
 length_numbers zero = refl
 length_numbers (suc n) = length-append (first_numbers n) (number_after n ∷ []) ∙ ap (λ (k : ℕ). k + 1) (length_numbers n) ∙ (omega arith)
 
@@ -36,10 +36,10 @@ numbers_more a (suc b) =
     )
 
 -- these numbers are the first so many
-abbrev AreNumbered : List ℕ → Type 0
+abbrev pub AreNumbered : List ℕ → Type 0
 AreNumbered ns = ns ≡ first_numbers (length ns)
 
-numbered_front : (xs ys : List ℕ) → AreNumbered (xs ++ ys) → AreNumbered xs
+pub numbered_front : (xs ys : List ℕ) → AreNumbered (xs ++ ys) → AreNumbered xs
 numbered_front xs ys e =
     let more = numbers_more (length xs) (length ys) in
     let same : xs ++ ys ≡ first_numbers (length xs) ++ more.0 = e ∙ ap first_numbers (length-append xs ys) ∙ more.1 in
@@ -47,7 +47,7 @@ numbered_front xs ys e =
 
 -- ---- questions with the same names and numbers
 
-abbrev ids_of : List Question → List ℕ
+abbrev pub ids_of : List Question → List ℕ
 ids_of qs = map (λ (q : Question). q.id) qs
 
 same_question : (one other : Question) → one.id ≡ other.id → one.name ≡ other.name → one ≡ other
@@ -67,7 +67,7 @@ same_questions (x ∷ xs) (y ∷ ys) e f =
 same_length : (xs ys : List Question) → names_of xs ≡ names_of ys → length xs ≡ length ys
 same_length xs ys e = sym (length-map xs (λ (q : Question). q.name)) ∙ ap length e ∙ length-map ys (λ (q : Question). q.name)
 
-same_fresh : (before : List ℕ) (xs ys : List Question) → names_of xs ≡ names_of ys → AreNumbered (before ++ ids_of xs) → AreNumbered (before ++ ids_of ys) → xs ≡ ys
+pub same_fresh : (before : List ℕ) (xs ys : List Question) → names_of xs ≡ names_of ys → AreNumbered (before ++ ids_of xs) → AreNumbered (before ++ ids_of ys) → xs ≡ ys
 same_fresh before xs ys e one other =
     let long : length (ids_of xs) ≡ length (ids_of ys) = length-map xs (λ (q : Question). q.id) ∙ same_length xs ys e ∙ sym (length-map ys (λ (q : Question). q.id)) in
     let whole : length (before ++ ids_of xs) ≡ length (before ++ ids_of ys) =
@@ -76,20 +76,20 @@ same_fresh before xs ys e one other =
 
 -- ---- one turn
 
-told_none : (t : Terms) (one other : List (List ℕ)) → told t (Begin one) ≡ told t (Begin other)
+pub told_none : (t : Terms) (one other : List (List ℕ)) → told t (Begin one) ≡ told t (Begin other)
 unfolding told
 told_none t one other = refl
 
 module _ (t : Terms) (jobs : List Job) (w : 0 < t.wait) (r : 0 < t.tries) where
   -- what is sent again after an event
-  repeats_fall : (h : Turns) (e : Event) (sent : List (List ℕ)) → SendsOwed t jobs h → (o : IsOwed t jobs (questions h) (firsts h) (Then h e sent) sent)
+  pub repeats_fall : (h : Turns) (e : Event) (sent : List (List ℕ)) → SendsOwed t jobs h → (o : IsOwed t jobs (questions h) (firsts h) (Then h e sent) sent)
       → o.again ≡ filter (λ q. falls_due t h e q.name) (firsts h ++ o.fresh)
   repeats_fall h e sent s o =
       o.repeats
       ∙ again_are t (questions h) (firsts h) o.fresh (Then h e sent) (fresh_new t jobs (questions h) (firsts h) (Then h e sent) sent o (firsts_proper t jobs h s)) (due_sends t h) (falls_due t h e)
       (sent_as_due t jobs w r h s) (due_unsent t w r h) (λ m k. due_next t w r h e sent m (ap (has_name m) (firsts_next t jobs h e sent s o) ∙ k))
 
-  repeats_none : (sent : List (List ℕ)) (o : IsOwed t jobs [] [] (Begin sent) sent) → o.again ≡ filter (λ q. false) o.fresh
+  pub repeats_none : (sent : List (List ℕ)) (o : IsOwed t jobs [] [] (Begin sent) sent) → o.again ≡ filter (λ q. false) o.fresh
   repeats_none sent o =
       o.repeats
       ∙ again_are t [] [] o.fresh (Begin sent) (fresh_new t jobs [] [] (Begin sent) sent o (All-nil _)) (λ m. 1) (λ m. false) (λ m. refl) (λ m k. refl) (λ m k. due_begin t w r sent m)
@@ -127,23 +127,23 @@ module _ (t : Terms) (jobs : List Job) (w : 0 < t.wait) (r : 0 < t.tries) where
 -- ---- fronts
 
 -- the first log is a front of the second, with fewer events
-abbrev IsBefore : Turns → Turns → Type 0
+abbrev pub IsBefore : Turns → Turns → Type 0
 IsBefore h (Begin sent) = ⊥
 IsBefore h (Then before e sent) = (h ≡ before) ⊎ IsBefore h before
 
 -- a log so far
-record IsSoFar (answers : AnswerMap) (t : Terms) (jobs : List Job) (h : Turns) : Type 0 where
+pub record IsSoFar (answers : AnswerMap) (t : Terms) (jobs : List Job) (h : Turns) : Type 0 where
   pub sends : SendsOwed t jobs h
   pub answered : IsAnswered answers h
   pub numbered : AreNumbered (drawn h)
 
-waited : (t : Terms) (jobs : List Job) (h longer : Turns) → IsBefore h longer → WaitsBefore t jobs longer → some_wait t jobs h ≡ true
+pub waited : (t : Terms) (jobs : List Job) (h longer : Turns) → IsBefore h longer → WaitsBefore t jobs longer → some_wait t jobs h ≡ true
 waited t jobs h (Begin sent) b waits = absurd b
 waited t jobs h (Then before e sent) (inl same) waits = ap (some_wait t jobs) same ∙ waits.1
 waited t jobs h (Then before e sent) (inr b) waits = waited t jobs h before b waits.0
 
 module _ (answers : AnswerMap) (t : Terms) (jobs : List Job) (w : 0 < t.wait) (r : 0 < t.tries) where
-  so_far : (h : Turns) (e : Event) (sent : List (List ℕ)) → IsSoFar answers t jobs (Then h e sent) → IsSoFar answers t jobs h
+  pub so_far : (h : Turns) (e : Event) (sent : List (List ℕ)) → IsSoFar answers t jobs (Then h e sent) → IsSoFar answers t jobs h
   unfolding IsAnswered
   so_far h e sent log =
       record {
@@ -152,7 +152,7 @@ module _ (answers : AnswerMap) (t : Terms) (jobs : List Job) (w : 0 < t.wait) (r
         numbered = numbered_front (drawn h) (ids_of log.sends.1.fresh) (subst AreNumbered (drawn_next t jobs w r h e sent log.sends.0 log.sends.1) log.numbered);
       }
 
-  came : (h : Turns) (e : Event) (sent : List (List ℕ)) → IsSoFar answers t jobs (Then h e sent) → e ≡ event_by (due_reply answers h)
+  pub came : (h : Turns) (e : Event) (sent : List (List ℕ)) → IsSoFar answers t jobs (Then h e sent) → e ≡ event_by (due_reply answers h)
   unfolding IsAnswered
   came h e sent log = log.answered.1
 
@@ -174,7 +174,7 @@ module _ (answers : AnswerMap) (t : Terms) (jobs : List Job) (w : 0 < t.wait) (r
   next h e sent (Then h' e' sent') one other (inr b) = inr (next h e sent h' one (so_far h' e' sent' other) b)
 
   -- two logs are the same, or one is a front of the other
-  compared : (one other : Turns) → IsSoFar answers t jobs one → IsSoFar answers t jobs other → (one ≡ other) ⊎ (IsBefore one other ⊎ IsBefore other one)
+  pub compared : (one other : Turns) → IsSoFar answers t jobs one → IsSoFar answers t jobs other → (one ≡ other) ⊎ (IsBefore one other ⊎ IsBefore other one)
   compared (Begin sent) (Begin sent') p q = inl (ap Begin (same_begin t jobs w r sent sent' p.sends q.sends p.numbered q.numbered))
   compared (Begin sent) (Then h e sent') p q = go (compared (Begin sent) h p (so_far h e sent' q))
     where
@@ -193,7 +193,7 @@ module _ (answers : AnswerMap) (t : Terms) (jobs : List Job) (w : 0 < t.wait) (r
           further (inr c) = inr (inl c)
       go (inr (inr b)) = inr (inr (inr b))
 
-  so_far_of : (h : Turns) → IsLogOf answers t jobs h → IsSoFar answers t jobs h
+  pub so_far_of : (h : Turns) → IsLogOf answers t jobs h → IsSoFar answers t jobs h
   so_far_of h log =
       record {
         sends = log.polled.sends;
@@ -211,11 +211,11 @@ module _ (answers : AnswerMap) (t : Terms) (jobs : List Job) (w : 0 < t.wait) (r
 
 -- ---- from turns to moves
 
-abbrev move_of : Event → Move
+abbrev pub move_of : Event → Move
 move_of (Given octets) = move.Given octets
 move_of Tick = move.Tick
 
-abbrev moves_of : Turns → List Move
+abbrev pub moves_of : Turns → List Move
 moves_of (Begin sent) = map move.Sent sent
 moves_of (Then before e sent) = moves_of before ++ move_of e ∷ map move.Sent sent
 
@@ -227,7 +227,7 @@ moves_more (Then h e sent) (move.Sent octets) =
 moves_more h (move.Given octets) = refl
 moves_more h move.Tick = refl
 
-moves_back : (h : Turns) (ms : List Move) → moves_of (with_moves h ms) ≡ moves_of h ++ ms
+pub moves_back : (h : Turns) (ms : List Move) → moves_of (with_moves h ms) ≡ moves_of h ++ ms
 unfolding with_moves
 moves_back h [] = sym (append-nil (moves_of h))
 moves_back h (m ∷ ms) = moves_back (with_move h m) ms ∙ ap (λ (l : List Move). l ++ ms) (moves_more h m) ∙ append_assoc (moves_of h) (m ∷ []) ms

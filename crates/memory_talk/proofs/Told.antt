@@ -41,7 +41,7 @@ answer_told q is NoAddress fits =
     let name = proper q.name is.name in
     told_no_address q.id q.name is.number name.short name.labels
 
-reply_told : (answers : AnswerMap) → AreAddresses answers → (q : Question) → IsQuestion q → reply_of (reply_from answers q) q.id q.name ≡ Some (answer_in answers q.name)
+pub reply_told : (answers : AnswerMap) → AreAddresses answers → (q : Question) → IsQuestion q → reply_of (reply_from answers q) q.id q.name ≡ Some (answer_in answers q.name)
 reply_told answers small q is = answer_told q is (answer_in answers q.name) (address_fits answers small q.name)
 
 -- ---- a datagram tells a name one answer, whatever the number
@@ -59,12 +59,12 @@ one_answer datagram id other name a b e f = both_are a b (answer_behind datagram
 -- ---- what was accepted
 
 -- a name was sent, and this datagram has a reply to it
-record IsAccepted (turns : Turns) (datagram name : List ℕ) (answer : Answer) : Type 0 where
+pub record IsAccepted (turns : Turns) (datagram name : List ℕ) (answer : Answer) : Type 0 where
   pub sent : was_sent turns name ≡ true
   pub number : ℕ
   pub reply : reply_of datagram number name ≡ Some answer
 
-accepted_parts : (terms : Terms) (turns : Turns) (datagram name : List ℕ) (answer : Answer) → accepted terms turns (Given datagram) name ≡ Some answer → IsAccepted turns datagram name answer
+pub accepted_parts : (terms : Terms) (turns : Turns) (datagram name : List ℕ) (answer : Answer) → accepted terms turns (Given datagram) name ≡ Some answer → IsAccepted turns datagram name answer
 unfolding accepted accepted_in
 accepted_parts terms turns datagram name answer e =
     go (has_name name (firsts turns)) refl (not (nat_le (limit terms) (age turns name))) (number_in (firsts turns) name) e
@@ -75,7 +75,7 @@ accepted_parts terms turns datagram name answer e =
     go true s false r f = none_some answer f
     go false s c r f = none_some answer f
 
-named : (qs : List Question) (name : List ℕ) → AllByRecursion HasLookupName qs → has_name name qs ≡ true → IsTrue (is_lookup_name name)
+pub named : (qs : List Question) (name : List ℕ) → AllByRecursion HasLookupName qs → has_name name qs ≡ true → IsTrue (is_lookup_name name)
 named [] name h e = true_false (sym e)
 named (q ∷ qs) name h e = go (same_name q.name name) refl e (named qs name h.1)
   where

@@ -1,21 +1,30 @@
--- What a log that is answered from a map tells: the answers of the map, and so the runs against it.
-use Rattle.std.specs.Prelude.{◌≡◌, ℕ, ◌<◌, ◌^◌, List, length, Some}
+-- What a log that is answered from a map tells: the answers of the map, and so the runs against it. Where names are few each
+-- question has its reply.
+use Rattle.std.specs.Prelude.{◌≡◌, ℕ, ◌*◌, ◌<◌, ◌≤◌, ◌^◌, List, [], ◌∷◌, ◌++◌, length, map, Some, true}
+use Rattle.std.specs.List.{All}
 use Rattle.std.specs.FinMap as map
 use Rattle.pac_names.specs.declared.answer.Answer.{Answer}
 use Rattle.pac_names.specs.declared.answer.Answer.TheVariants.{Address}
+use Rattle.pac_names.specs.declared.limits.TheConstants.{MOST_NAMES}
+use Rattle.batch_text.specs.declared.batch.TheConstants.{MOST_URLS}
 use Rattle.js_host.specs.Answers.{AnswerMap, Name, answer_in}
 use Rattle.pac_ports.specs.declared.link.Move.{Move}
 use Rattle.run_trees.specs.RunTree.{RunTree}
 use Rattle.run_trees.specs.WholeRun.{whole_run}
+use Rattle.poll_log.specs.declared.question.Question.{Question}
 use Rattle.poll_log.specs.declared.terms.Terms.{Terms}
-use Rattle.poll_log.specs.Turns.{Turns, turns_of}
-use Rattle.poll_log.specs.Questions.{drawn, firsts}
+use Rattle.poll_log.specs.declared.terms.TheConstants.{FLOOD}
+use Rattle.poll_log.specs.Turns.{Turns, Begin, Then, Event, Given, turns_of}
+use Rattle.poll_log.specs.Questions.{drawn, firsts, questions}
 use Rattle.poll_log.specs.Told.{told}
-use Rattle.poll_log.specs.Jobs.{IsFinished, IsPolled, Job}
+use Rattle.poll_log.specs.Jobs.{IsCut, IsFinished, IsPolled, Job, some_wait}
+use Rattle.poll_log.specs.Laws.{IsAllTold, IsRestartable}
+use Rattle.poll_loop.specs.Task.{IsSound, Task}
 use Rattle.session_log.specs.Asked.{job_of}
 use Rattle.session_log.specs.Sessions.{IsWhole}
-use Rattle.pac_generate.specs.Answered.{IsAnswered}
+use Rattle.pac_generate.specs.Answered.{IsAnswered, reply_from}
 use Rattle.pac_generate.specs.Names.{site_map}
+use Rattle.pac_generate.specs.declared.limits.TheConstants.{MOST_MOVES, MOST_QUESTIONS}
 use Rattle.memory_talk.specs.Numbers.{first_numbers}
 
 -- each address of the map has 32 bits
@@ -49,3 +58,72 @@ abbrev pub OneLog : Type 0
 OneLog =
     (answers : AnswerMap) (terms : Terms) (jobs : List Job) (one other : List Move) → 0 < terms.wait → 0 < terms.tries
     → IsLogOf answers terms jobs (turns_of one) → IsLogOf answers terms jobs (turns_of other) → one ≡ other
+
+-- and there is one, where what is polled for is sound
+abbrev pub LogIsThere : Type 0
+LogIsThere =
+    (answers : AnswerMap) (task : Task) → IsSound task
+    → (log : List Move) × IsLogOf answers task.terms task.jobs (turns_of log)
+
+-- Such a log that is cut short.
+pub record IsCutLogOf (answers : AnswerMap) (terms : Terms) (jobs : List Job) (turns : Turns) : Type 0 where
+  pub cut : IsCut terms jobs turns
+  pub answered : IsAnswered answers turns
+  pub numbered : drawn turns ≡ first_numbers (length (firsts turns))
+
+-- it is a front of the whole one
+abbrev pub CutIsFront : Type 0
+CutIsFront =
+    (answers : AnswerMap) (terms : Terms) (jobs : List Job) (cut log : List Move) → 0 < terms.wait → 0 < terms.tries
+    → IsCutLogOf answers terms jobs (turns_of cut) → IsLogOf answers terms jobs (turns_of log)
+    → (rest : List Move) × (log ≡ cut ++ rest)
+
+-- ---- each question has its reply
+
+-- the events of a log, in order
+unfoldable pub events_of : Turns → List Event
+events_of (Begin sent) = []
+events_of (Then before event sent) = events_of before ++ event ∷ []
+
+-- the reply to a question is given
+abbrev pub reply_event : AnswerMap → Question → Event
+reply_event answers q = Given (reply_from answers q)
+
+-- Jobs that obey the extension law with so many names each. Together these are no more than are answered, and the replies
+-- to so many make fewer beats than pass before a name is sent again.
+pub record AskFew (most : ℕ) (terms : Terms) (jobs : List Job) : Type 0 where
+  pub restartable : All (IsRestartable most) jobs
+  pub answered : most * length jobs ≤ MOST_QUESTIONS
+  pub early : most * length jobs < FLOOD * terms.wait
+  pub tried : 0 < terms.tries
+
+-- Each question of a log has its reply.
+pub record AreReplied (answers : AnswerMap) (terms : Terms) (jobs : List Job) (turns : Turns) : Type 0 where
+  -- the t-th event is the reply to the t-th question, and there is no other event: no tick stands in the log
+  pub replies : events_of turns ≡ map (reply_event answers) (questions turns)
+  -- no name is sent twice
+  pub once : questions turns ≡ firsts turns
+  -- each name that was sent is told, so none is dead
+  pub all_told : IsAllTold terms turns
+  -- and no job is unanswered
+  pub finished : All (IsFinished terms turns) jobs
+
+-- so it is in each polled log that is answered from the map
+abbrev pub QuestionsAreReplied : Type 0
+QuestionsAreReplied =
+    (most : ℕ) (answers : AnswerMap) (terms : Terms) (jobs : List Job) (turns : Turns) → AreAddresses answers → AskFew most terms jobs
+    → IsPolled terms jobs turns → IsAnswered answers turns → AreReplied answers terms jobs turns
+
+-- Jobs that are sound as the core's are, as many as a batch has URLs at most, ask few names, where a name waits three beats
+-- or more.
+abbrev pub SoundJobsAskFew : Type 0
+SoundJobsAskFew =
+    (task : Task) → IsSound task → length task.jobs ≤ MOST_URLS → 2 < task.terms.wait
+    → AskFew MOST_NAMES task.terms task.jobs
+
+-- the link has room for one move more while some job waits, wherever the log is cut short
+abbrev pub LinkHasRoom : Type 0
+LinkHasRoom =
+    (most : ℕ) (answers : AnswerMap) (terms : Terms) (jobs : List Job) (log : List Move) → AreAddresses answers → AskFew most terms jobs
+    → IsCut terms jobs (turns_of log) → IsAnswered answers (turns_of log) → some_wait terms jobs (turns_of log) ≡ true
+    → length log < MOST_MOVES

@@ -1,5 +1,15 @@
 // The laws of logs that are answered from a map, each once.
-ghost use Rattle.memory_talk.specs.Laws.{AgreesWithTheMap, OneLog, SitesHaveAddresses, ToldIsTheMaps};
+ghost use Rattle.memory_talk.specs.Laws.{
+  AgreesWithTheMap,
+  CutIsFront,
+  LinkHasRoom,
+  LogIsThere,
+  OneLog,
+  QuestionsAreReplied,
+  SitesHaveAddresses,
+  SoundJobsAskFew,
+  ToldIsTheMaps,
+};
 
 /// What is told of a name is the map's answer to it.
 pub fn told_is_the_maps()
@@ -19,4 +29,30 @@ pub fn sites_have_addresses()
 /// A map and jobs have at most one whole log.
 pub fn one_log()
     ensures { OneLog }
+{}
+
+/// A map and sound jobs have a whole log.
+pub fn log_is_there()
+    ensures { LogIsThere }
+{}
+
+/// A log that is cut short is a front of the whole one.
+pub fn cut_is_front()
+    ensures { CutIsFront }
+{}
+
+/// Where jobs ask few names, the events of a whole log are the replies to its questions, one each and in their order, and
+/// each job is finished.
+pub fn questions_are_replied()
+    ensures { QuestionsAreReplied }
+{}
+
+/// The runs of scripts for the URLs of a batch ask few names.
+pub fn sound_jobs_ask_few()
+    ensures { SoundJobsAskFew }
+{}
+
+/// Where jobs ask few names, the link has room for one move more while some job waits.
+pub fn link_has_room()
+    ensures { LinkHasRoom }
 {}

@@ -1,9 +1,8 @@
 -- The generated script is read and its URLs are few, so what follows the summing of its runs follows the plan of `generate`.
-use Rattle.std.proofs.Common.{◌≡◌, ℕ, zero, suc, ◌+◌, ◌≤◌, List, [], ◌∷◌, length, map, Option, Result, Ok, Err, refl, sym, ◌∙◌, ap, subst, arith}
+use Rattle.std.proofs.Common.{◌≡◌, ℕ, zero, suc, ◌≤◌, List, [], ◌∷◌, length, map, Option, Result, Ok, Err, refl, sym, ap, subst, arith}
 use Rattle.std.proofs.lemmas.List.{length-append, length-map}
 use Rattle.utf16_text.specs.declared.limits.TheConstants.{LONGEST_FILE}
 use Rattle.batch_text.specs.declared.batch.TheConstants.{MOST_URLS}
-use Rattle.batch_text.specs.declared.batch.BatchLine.{BatchLine}
 use Rattle.batch_text.specs.Batch.{BatchEntry, Asks, ProxyFailed, ProxyWorked, entry_seen}
 use Rattle.js_tree.specs.Tree.{StatementTree}
 use Rattle.js_grammar.specs.Reading.{Refusal}
@@ -47,15 +46,20 @@ entries_few given (Asks moment seen ∷ rest) = let low = entries_few given rest
 entries_few given (ProxyFailed moment proxy ∷ rest) = let low = entries_few given rest in omega (arith, low)
 entries_few given (ProxyWorked moment proxy ∷ rest) = let low = entries_few given rest in omega (arith, low)
 
+pub generated_few : (given : Given) (seed sites : ℕ) → sites ≤ MOST_URLS → length (entries_for given (generated_batch seed sites)) ≤ MOST_URLS
+generated_few given seed sites low =
+    let few = entries_few given (generated_batch seed sites) in
+    let batch = length-map (site_lines sites) entry_seen in
+    let count = lines_count sites in
+    omega (arith, low, few, batch, count)
+
 pub few_entries : (given : Given) (seed sites : ℕ) (entries : List code.Entry) → sites ≤ MOST_URLS
     → map entry_of entries ≡ entries_for given (generated_batch seed sites) → length entries ≤ MOST_URLS
 few_entries given seed sites entries low same =
     let one = length-map entries entry_of in
     let two = ap length same in
-    let few = entries_few given (generated_batch seed sites) in
-    let batch = length-map (site_lines sites) entry_seen in
-    let count = lines_count sites in
-    omega (arith, low, one, two, few, batch, count)
+    let few = generated_few given seed sites low in
+    omega (arith, one, two, few)
 
 -- ---- the plan
 

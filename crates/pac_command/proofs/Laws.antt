@@ -10,11 +10,12 @@ use Rattle.js_law_evaluation.proofs.OfEvaluation.{asks-by-names}
 use Rattle.poll_loop.proofs.Kept.{memory_cut}
 use Rattle.pac_ask.proofs.Begin as name_begins
 use Rattle.pac_ask.proofs.Answered as name_told
-use Rattle.url_runs.proofs.Completions.{completion}
+use Rattle.url_runs.proofs.Completions.{completion, each_map_is_taken}
 use Rattle.url_runs.proofs.Counting.{few}
 use Rattle.url_runs.proofs.Sound as urls
 use Rattle.url_runs.proofs.Answered as urls_told
 use Rattle.memory_talk.proofs.Same as answered
+use Rattle.pac_command.proofs.GeneratedLog.{generate_has_its_log}
 use Rattle.pac_command.proofs.Terms.{terms_are_read}
 use Rattle.pac_command.specs.Laws.{CommandsKeepLaws, ScriptIsRead}
 
@@ -25,6 +26,7 @@ script_is_read = (_, refl)
 pub laws : CommandsKeepLaws
 laws = record {
   agreeing_map = completion;
+  each_agreeing_map = each_map_is_taken;
   few_runs = few;
   urls_are_sound = λ script. urls.sound (run_by_names script) (λ entry. asks-by-names script entry);
   name_is_sound = λ asking n terms named. name_begins.sound asking.terms n terms named;
@@ -33,5 +35,6 @@ laws = record {
   name_is_answered = name_told.answered;
   script_is_read = script_is_read;
   one_log = answered.one_log;
+  its_log = generate_has_its_log;
   terms_are_read = terms_are_read;
 }

@@ -1,18 +1,24 @@
 -- What holds of the commands beside their plans.
-use Rattle.std.specs.Prelude.{◌≡◌, List, Ok, Some}
+use Rattle.std.specs.Prelude.{◌≡◌, ◌≤◌, ℕ, List, Ok, Some}
+use Rattle.batch_text.specs.declared.batch.TheConstants.{MOST_URLS}
 use Rattle.js_tree.specs.Tree.{StatementTree}
 use Rattle.js_grammar.specs.Statements.{script_of_text}
 use Rattle.js_evaluation.specs.Evaluation.{run_by_names}
-use Rattle.memory_talk.specs.Laws.{OneLog}
+use Rattle.memory_talk.specs.Laws.{AreReplied, IsLogOf, OneLog}
 use Rattle.pac_ask.specs.Laws.{AsksAreSound, ToldIsAnswered}
 use Rattle.pac_generate.specs.Generated as generated
 use Rattle.pac_words.specs.Commands.{Asked, Asking, asking, command_of, resolving}
 use Rattle.pac_words.specs.Rules.{Text}
+use Rattle.pac_ports.specs.declared.link.Move.{Move}
+use Rattle.poll_log.specs.Turns.{turns_of}
+use Rattle.poll_loop.specs.Task.{Task}
 use Rattle.poll_loop.specs.Laws.{UnfinishedIsCut}
 use Rattle.stub_poller.specs.Ready.{AreTerms}
-use Rattle.url_runs.specs.Resolving.{Completion}
-use Rattle.url_runs.specs.Laws.{RunsAreFew, TasksAreSound, ToldAreAnswered}
+use Rattle.url_runs.specs.Resolving.{Completion, urls_talk}
+use Rattle.url_runs.specs.Laws.{EachMapIsTaken, RunsAreFew, TasksAreSound, ToldAreAnswered}
 use Rattle.pac_command.specs.Commands.{asking_of}
+use Rattle.pac_command.specs.Generate.{generated_batch, usual_asking, usual_given}
+use Rattle.pac_command.specs.Urls.{entries_for}
 
 -- the generated script is read
 abbrev pub ScriptIsRead : Type 0
@@ -30,9 +36,34 @@ TermsAreRead =
     (ws : List Text) (asked : Asked) → command_of ws ≡ Some asked
     → (how : Asking) → IsAskedWith how asked → AreTerms (asking_of how).terms
 
+-- what `generate` polls for with this script
+abbrev pub generate_task : ℕ → ℕ → List StatementTree → Task
+generate_task seed sites script =
+    (urls_talk usual_asking (run_by_names script) (entries_for usual_given (generated_batch seed sites))).task
+
+-- its log: it is polled and answered from the generated map, and its first sends carry 0, 1, 2 and so on
+abbrev pub IsGeneratedLog : ℕ → ℕ → List StatementTree → List Move → Type 0
+IsGeneratedLog seed sites script log =
+    let task = generate_task seed sites script in
+    IsLogOf (generated.generated seed sites).map task.terms task.jobs (turns_of log)
+
+-- Its t-th event is the reply to its t-th question and there is no other event, so no tick; and each URL is finished.
+abbrev pub AllAreReplied : ℕ → ℕ → List StatementTree → List Move → Type 0
+AllAreReplied seed sites script log =
+    let task = generate_task seed sites script in
+    AreReplied (generated.generated seed sites).map task.terms task.jobs (turns_of log)
+
+-- For each number of sites that is allowed there is that log, and in each that is one all are replied.
+pub record GenerateHasItsLog : Type 0 where
+  pub is_there : (seed sites : ℕ) (script : List StatementTree) → (log : List Move) × IsGeneratedLog seed sites script log
+  pub replied : (seed sites : ℕ) (script : List StatementTree) (log : List Move) → sites ≤ MOST_URLS
+      → IsGeneratedLog seed sites script log → AllAreReplied seed sites script log
+
 pub record CommandsKeepLaws : Type 0 where
   -- for each log there is a map of all names that agrees with it
   pub agreeing_map : Completion
+  -- and each map of all names that agrees with it is one of those that are spoken of
+  pub each_agreeing_map : EachMapIsTaken
   -- no URL costs more runs than the distinct names of its whole run, plus one
   pub few_runs : RunsAreFew
   -- what is polled for is sound, so where memory ran out the log is cut short
@@ -42,8 +73,9 @@ pub record CommandsKeepLaws : Type 0 where
   -- where each name that was sent is told, nothing is unanswered
   pub urls_are_answered : ToldAreAnswered
   pub name_is_answered : ToldIsAnswered
-  -- of `generate`: its script is read, and its map and jobs have at most one whole log
+  -- of `generate`: its script is read, its map and jobs have at most one whole log, and that is there, without a tick
   pub script_is_read : ScriptIsRead
   pub one_log : OneLog
+  pub its_log : GenerateHasItsLog
   -- what words ask for is asked for with a wait and tries from 1 to their most
   pub terms_are_read : TermsAreRead

@@ -1,5 +1,5 @@
 // Faults, as a report names them.
-ghost use Rattle.std.specs.Prelude.{◌≡◌, codes};
+ghost use Rattle.std.specs.Prelude.{◌≡◌};
 ghost use Rattle.report_text.specs.Report as spec;
 
 use js_interp::FaultCode;

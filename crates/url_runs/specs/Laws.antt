@@ -27,6 +27,12 @@ RunsAreFew =
     (script : ScriptRuns) (entry : Entry) (terms : Terms) (turns : Turns) (answers : AnswerMap) → Holds answers (told terms turns)
     → runs_of terms turns (url_job script entry) ≤ length (asked_names answers (script entry)) + 1
 
+-- Each map of all names that holds what a log tells is the one that some choice of maps takes for that log. So what is
+-- reported for each choice is reported for each such map.
+abbrev pub EachMapIsTaken : Type 0
+EachMapIsTaken = (terms : Terms) (turns : Turns) (all : AnswerMap) → Holds all (told terms turns)
+    → (complete : Completion) × (complete.answers terms turns ≡ all)
+
 -- What is polled for is sound: what waits lacks lookup names alone, and obeys the extension law with at most 32 names.
 abbrev pub TasksAreSound : ScriptRuns → Type 0
 TasksAreSound script =

@@ -11,7 +11,9 @@ mod reports;
 mod resolving;
 mod url_run;
 
-pub use laws::{completions_are_there, runs_are_few, tasks_are_sound, told_are_answered};
+pub use laws::{
+    completions_are_there, each_map_is_taken, runs_are_few, tasks_are_sound, told_are_answered,
+};
 pub use mapping::map_urls;
 pub use resolving::{end_urls, resolve_urls};
 pub use url_run::UrlRun;

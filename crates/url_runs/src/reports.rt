@@ -1,5 +1,5 @@
 // The report of a batch, and its status.
-ghost use Rattle.std.specs.Prelude.{◌≡◌, IfOk, map};
+ghost use Rattle.std.specs.Prelude.{◌≡◌, map};
 ghost use Rattle.std.specs.List.{list_any};
 ghost use Rattle.pac_plan.specs.Follows.{IsUnlessMemory};
 ghost use Rattle.pac_plan.specs.OutputView.{made};

@@ -1,8 +1,7 @@
-use Rattle.std.proofs.Common.{map, refl, sym}
+use Rattle.std.proofs.Common.{refl, sym}
 use Rattle.heap_values.specs.declared.value.Value.{Value}
 use Rattle.heap_steps.proofs.Chains.{chained, stops}
 use Rattle.js_entries.proofs.Entering.{scope_by_number}
-use Rattle.js_tree.specs.View.{function_of}
 use Rattle.js_entries.specs.Globals.{declare_function}
 use Rattle.js_entries.proofs.globals.declare_in.Goals as goal
 

@@ -1,4 +1,4 @@
-use Rattle.std.proofs.Common.{Result, List, length}
+use Rattle.std.proofs.Common.{Result, length}
 use Rattle.heap_values.specs.Views.{HeapView}
 use Rattle.heap_steps.specs.declared.halt.Halt.{Halt}
 use Rattle.heap_steps.specs.Works.{Works}

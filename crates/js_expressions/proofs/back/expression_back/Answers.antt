@@ -12,12 +12,6 @@ returns-in-Callee c = rw c.in-Callee.is c.called_new.ensures
 pub returns-in-NewArgument : goal.returns-in-NewArgument
 returns-in-NewArgument c = rw c.in-NewArgument.is c.new_argument_done.ensures
 
-pub returns-in-UpdateTarget : goal.returns-in-UpdateTarget
-returns-in-UpdateTarget c = rw c.in-UpdateTarget.is c.update_done.ensures
-
-pub returns-in-DeleteTarget : goal.returns-in-DeleteTarget
-returns-in-DeleteTarget c = rw c.in-DeleteTarget.is c.target_deleted.ensures
-
 pub returns-in-TypeOf : goal.returns-in-TypeOf
 returns-in-TypeOf c = rw c.in-TypeOf.is c.type_done.ensures
 
@@ -39,17 +33,8 @@ returns-in-Operand c = rw c.in-Operand.is c.operand_done.ensures
 pub returns-in-Conditional : goal.returns-in-Conditional
 returns-in-Conditional c = rw c.in-Conditional.is c.chosen.ensures
 
-pub returns-in-AssignTarget : goal.returns-in-AssignTarget
-returns-in-AssignTarget c = rw c.in-AssignTarget.is c.target_done.ensures
-
 pub returns-in-AssignValue : goal.returns-in-AssignValue
 returns-in-AssignValue c = rw c.in-AssignValue.is c.value_done.ensures
 
 pub returns-in-AssignOperand : goal.returns-in-AssignOperand
 returns-in-AssignOperand c = rw c.in-AssignOperand.is c.assigned_operand.ensures
-
-pub returns-in-DeleteName : goal.returns-in-DeleteName
-returns-in-DeleteName c = rw c.in-DeleteName.is (c.name_deleted.ensures c.args.value)
-
-pub returns-in-TypeOfName : goal.returns-in-TypeOfName
-returns-in-TypeOfName c = rw c.in-TypeOfName.is (c.name_type.ensures c.args.value)

@@ -1,7 +1,7 @@
 use Rattle.js_expressions.proofs.back.suffix_back.Goals as goal
 
 pub returns-in-First : goal.returns-in-First
-returns-in-First c = rw c.in-First.is c.first_done.ensures
+returns-in-First c = rw c.in-First.is c.applied.ensures
 
 pub returns-in-Index : goal.returns-in-Index
 returns-in-Index c = rw c.in-Index.is c.index_done.ensures

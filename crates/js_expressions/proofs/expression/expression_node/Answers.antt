@@ -1,11 +1,19 @@
-use Rattle.std.proofs.Common.{subst, sym, ap, ◌∙◌}
-use Rattle.js_machine.specs.Moves.{Moves, at, functions_of, inner}
-use Rattle.js_frames.specs.Parts.{context_of}
-use Rattle.js_tree.specs.View.{expression_of, suffixes_of}
-use Rattle.heap_values.specs.declared.value.Value.{Value}
-use Rattle.js_evaluation.specs.State.{Does}
-use Rattle.js_expressions.proofs.Nodes.{node_suffixed}
+use Rattle.std.proofs.Common.{sym, ap, ◌∙◌}
+use Rattle.js_tree.specs.View.{expression_of}
+use Rattle.js_expressions.proofs.Nodes.{text_value, array_value, object_value, suffixed_value}
 use Rattle.js_expressions.proofs.expression.expression_node.Goals as goal
 
+pub returns-in-Text : goal.returns-in-Text
+returns-in-Text c = text_value c.args.machine.now c.args.e.now c.e.inside.place _ _ _ (ap (expression_of c.e.inside.place) (sym c.in-Text.is) ∙ c.e.view_is) c.text_literal.ensures
+
+pub returns-in-Array : goal.returns-in-Array
+returns-in-Array c = array_value c.args.machine.now c.args.e.now c.e.inside.place _ _ _ (ap (expression_of c.e.inside.place) (sym c.in-Array.is) ∙ c.e.view_is)
+    (rw c.as_slice.ensures at c.array_literal.ensures)
+
+pub returns-in-Object : goal.returns-in-Object
+returns-in-Object c = object_value c.args.machine.now c.args.e.now c.e.inside.place _ _ _ (ap (expression_of c.e.inside.place) (sym c.in-Object.is) ∙ c.e.view_is)
+    (rw c.as_slice-in-Object.ensures at c.object_literal.ensures)
+
 pub returns-in-Suffixed : goal.returns-in-Suffixed
-returns-in-Suffixed c = subst (λ (q : Does Value). Moves q c.args.machine.now c.suffixed.result c.suffixed.new.machine) (sym (node_suffixed (functions_of c.args.machine.now) (inner c.args.machine.now) (context_of c.args.machine.now.context) c.args.e.now c.e.inside.place c.in-Suffixed.first.value (suffixes_of c.in-Suffixed.all) (ap (expression_of c.e.inside.place) (sym c.in-Suffixed.is) ∙ c.e.view_is))) (rw (c.deref.ensures, c.as_slice-in-Suffixed.ensures) at c.suffixed.ensures)
+returns-in-Suffixed c = suffixed_value c.args.machine.now c.args.e.now c.e.inside.place _ _ _ _ (ap (expression_of c.e.inside.place) (sym c.in-Suffixed.is) ∙ c.e.view_is)
+    (rw (c.deref.ensures, c.as_slice-in-Suffixed.ensures) at c.suffixed.ensures)

@@ -1,5 +1,4 @@
 use Rattle.js_native_calls.proofs.Steps.{works_back, works_ends}
-use Rattle.heap_values.specs.declared.value.Value.TheVariants as value
 use Rattle.js_expressions.proofs.expression.named.Goals as goal
 
 pub returns-in_err-value : goal.returns-in_err-value

@@ -1,11 +1,14 @@
-use Rattle.std.proofs.Common.{subst, sym, ap, ◌∙◌}
-use Rattle.js_machine.specs.Moves.{Moves, at, functions_of, inner}
-use Rattle.js_frames.specs.Parts.{context_of}
-use Rattle.js_tree.specs.View.{expression_of, suffixes_of}
-use Rattle.heap_values.specs.declared.value.Value.{Value}
-use Rattle.js_evaluation.specs.State.{Does}
-use Rattle.js_expressions.proofs.Nodes.{target_suffixed}
+use Rattle.std.proofs.Common.{refl, sym, ap, ◌∙◌}
+use Rattle.js_tree.specs.View.{expression_of}
+use Rattle.js_expressions.proofs.Nodes.{suffixed_target, name_target, no_target}
 use Rattle.js_expressions.proofs.expression.target_node.Goals as goal
 
+pub returns-in-Name : goal.returns-in-Name
+returns-in-Name c = name_target c.args.machine.now c.args.e.now c.e.inside.place _ _ (ap (expression_of c.e.inside.place) (sym c.in-Name.is) ∙ c.e.view_is) refl
+
 pub returns-in-Suffixed : goal.returns-in-Suffixed
-returns-in-Suffixed c = subst (λ (q : Does Value). Moves q c.args.machine.now c.suffixed.result c.suffixed.new.machine) (sym (target_suffixed (functions_of c.args.machine.now) (inner c.args.machine.now) (context_of c.args.machine.now.context) c.args.e.now c.e.inside.place c.in-Suffixed.first.value (suffixes_of c.in-Suffixed.all) (ap (expression_of c.e.inside.place) (sym c.in-Suffixed.is) ∙ c.e.view_is))) (rw (c.deref.ensures, c.as_slice.ensures) at c.suffixed.ensures)
+returns-in-Suffixed c = suffixed_target c.args.machine.now c.args.e.now c.e.inside.place _ _ _ _ (ap (expression_of c.e.inside.place) (sym c.in-Suffixed.is) ∙ c.e.view_is)
+    (rw (c.deref.ensures, c.as_slice.ensures) at c.suffixed.ensures)
+
+pub returns-in_default : goal.returns-in_default
+returns-in_default c = no_target c.args.machine.now c.args.e.now c.e.inside.place _ _ c.e.view_is c.in_default.not-Name c.in_default.not-Suffixed c.none.ensures

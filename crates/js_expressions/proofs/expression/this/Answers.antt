@@ -1,6 +1,5 @@
 use Rattle.std.proofs.Common.{arith, refl}
 use Rattle.js_machine.proofs.Steps.{forgets}
-use Rattle.heap_values.specs.declared.value.Value.TheVariants as value
 use Rattle.js_expressions.proofs.expression.this.Goals as goal
 
 pub returns-in_err-value : goal.returns-in_err-value

@@ -1,7 +1,6 @@
 use Rattle.js_expressions.proofs.Binary.{binary_else}
-use Rattle.js_machine.specs.Moves.{functions_of, inner}
+use Rattle.js_machine.specs.Moves.{inner}
 use Rattle.js_evaluation.specs.Parts.{calls}
-use Rattle.js_frames.specs.Parts.{context_of}
 use Rattle.js_expressions.proofs.operators.binary.Goals as goal
 
 pub returns-in-In : goal.returns-in-In

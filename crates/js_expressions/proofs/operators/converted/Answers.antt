@@ -1,7 +1,6 @@
 use Rattle.std.proofs.Common.{sym}
-use Rattle.js_machine.specs.Moves.{functions_of, inner}
+use Rattle.js_machine.specs.Moves.{inner}
 use Rattle.js_evaluation.specs.Parts.{calls}
-use Rattle.js_frames.specs.Parts.{context_of}
 use Rattle.js_expressions.proofs.operators.converted.Goals as goal
 
 pub returns-then-takes_primitives : goal.returns-then-takes_primitives

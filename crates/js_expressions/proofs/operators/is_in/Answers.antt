@@ -1,7 +1,6 @@
 use Rattle.js_expressions.proofs.Objects.{in_nothing}
-use Rattle.js_machine.specs.Moves.{functions_of, inner}
+use Rattle.js_machine.specs.Moves.{inner}
 use Rattle.js_evaluation.specs.Parts.{calls}
-use Rattle.js_frames.specs.Parts.{context_of}
 use Rattle.js_expressions.proofs.operators.is_in.Goals as goal
 
 pub returns-in-Object : goal.returns-in-Object

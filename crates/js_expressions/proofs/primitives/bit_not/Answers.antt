@@ -2,9 +2,8 @@ use Rattle.std.proofs.Common.{◌≡◌, sym, ap, ◌∙◌, rules}
 use Rattle.js_machine.proofs.Steps.{works_then, works_stops}
 use Rattle.js_native_calls.proofs.Steps.{gives_value}
 use Rattle.heap_values.specs.declared.value.Value.TheVariants as value
-use Rattle.js_machine.specs.Moves.{functions_of, inner}
+use Rattle.js_machine.specs.Moves.{inner}
 use Rattle.js_evaluation.specs.Parts.{calls}
-use Rattle.js_frames.specs.Parts.{context_of}
 use Rattle.std.specs.Prelude.{negsuc, neg_ℤ, ◌-ℤ◌}
 use Rattle.std.proofs.Math.IntN.{+ℤ_comm}
 use Rattle.js_expressions.proofs.primitives.bit_not.Goals as goal

@@ -1,8 +1,7 @@
 use Rattle.std.proofs.Common.{arith, refl}
 use Rattle.js_machine.proofs.Steps.{works_then, works_stops}
-use Rattle.js_machine.specs.Moves.{functions_of, inner}
+use Rattle.js_machine.specs.Moves.{inner}
 use Rattle.js_evaluation.specs.Parts.{calls}
-use Rattle.js_frames.specs.Parts.{context_of}
 use Rattle.js_expressions.proofs.primitives.minus.Goals as goal
 
 pub returns-in_err-number : goal.returns-in_err-number

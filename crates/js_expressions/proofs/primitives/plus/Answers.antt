@@ -1,9 +1,8 @@
 use Rattle.std.proofs.Common.{refl}
 use Rattle.js_machine.proofs.Steps.{works_then, works_stops}
 use Rattle.js_native_calls.proofs.Steps.{gives}
-use Rattle.js_machine.specs.Moves.{functions_of, inner}
+use Rattle.js_machine.specs.Moves.{inner}
 use Rattle.js_evaluation.specs.Parts.{calls}
-use Rattle.js_frames.specs.Parts.{context_of}
 use Rattle.js_expressions.proofs.primitives.plus.Goals as goal
 
 pub returns-in_err-number : goal.returns-in_err-number

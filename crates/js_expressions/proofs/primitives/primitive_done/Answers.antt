@@ -1,3 +1,5 @@
+use Rattle.std.proofs.Common.{refl}
+use Rattle.js_expressions.proofs.References.{gives_reference}
 use Rattle.js_expressions.proofs.primitives.primitive_done.Goals as goal
 
 pub returns-in-Plus : goal.returns-in-Plus
@@ -16,7 +18,7 @@ pub returns-in-Index : goal.returns-in-Index
 returns-in-Index c = rw c.in-Index.is c.index_by.ensures
 
 pub returns-in-Key : goal.returns-in-Key
-returns-in-Key c = rw c.in-Key.is c.key_by.ensures
+returns-in-Key c = rw c.in-Key.is (gives_reference _ _ _ refl)
 
 pub returns-in-In : goal.returns-in-In
 returns-in-In c = rw c.in-In.is c.with_in.ensures

@@ -46,4 +46,4 @@ pub returns-in-Call : goal.returns-in-Call
 returns-in-Call c = c.loop-left.invariant _ _ (rw (list_step _ _ c.suffix-item.is c.in-len1-up.len_at_least) (next_charged c.loop-left.machine _ _ _ _ _ _ _ c.in_ok-charge.ensures.ok _ _ (rw (list_rest c.loop-left.left.now) at (sym c.is_last.ensures ∙ c.if-is_last.false)) (rw c.in-Call.is (rw (list_rest c.loop-left.left.now) at c.first_arguments.ensures))))
 
 pub returns : goal.returns
-returns c = c.loop-left.invariant _ _ (rw (list_end c.loop-left.left.now c.in_default.len_below) c.behind_suffixes.ensures)
+returns c = c.loop-left.invariant _ _ (rw (list_end c.loop-left.left.now c.in_default.len_below) (c.behind_suffixes.ensures _ c.loop-left.this))

@@ -2,9 +2,8 @@ use Rattle.std.proofs.Common.{ℕ, List, [], refl, ap}
 use Rattle.js_machine.proofs.Steps.{forgets, works_then, works_stops, with_heap}
 use Rattle.js_native_calls.proofs.Steps.{moves_as}
 use Rattle.js_native_calls.proofs.Objects.{text_of_message}
-use Rattle.js_machine.specs.Moves.{functions_of, inner, run_state}
+use Rattle.js_machine.specs.Moves.{inner, run_state}
 use Rattle.js_evaluation.specs.Parts.{calls}
-use Rattle.js_frames.specs.Parts.{context_of}
 use Rattle.js_evaluation.specs.State.{Does}
 use Rattle.js_evaluation.specs.Handed as handed
 use Rattle.js_evaluation.specs.Natives as natives

@@ -1,6 +1,6 @@
 use Rattle.std.proofs.Common.{arith, refl}
 use Rattle.js_evaluation.specs.Parts.{calls}
-use Rattle.js_machine.specs.Moves.{at, inner}
+use Rattle.js_machine.specs.Moves.{inner}
 use Rattle.js_native_calls.proofs.Objects.{joined_none}
 use Rattle.js_native_calls.proofs.joining.joined_value.Goals as goal
 

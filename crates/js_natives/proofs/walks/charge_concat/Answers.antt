@@ -1,5 +1,6 @@
 use Rattle.std.proofs.Common.{arith}
-use Rattle.js_evaluation.specs.NativeWork.{arguments_walk, lengths_in}
+use Rattle.js_evaluation.specs.NativeWork.{lengths_in}
+use Rattle.js_evaluation.specs.Walks.{arguments_walk}
 use Rattle.js_natives.proofs.Charging.{charge_stops, charge_then}
 use Rattle.js_natives.proofs.walks.charge_concat.Goals as goal
 

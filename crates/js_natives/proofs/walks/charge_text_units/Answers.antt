@@ -1,6 +1,6 @@
 use Rattle.std.proofs.Common.{◌≡◌, ◌+◌, drop, arith, ap}
 use Rattle.heap_steps.proofs.Lists.{list_step}
-use Rattle.js_evaluation.specs.NativeWork.{text_units, units_in}
+use Rattle.js_evaluation.specs.Walks.{text_units, units_in}
 use Rattle.js_natives.proofs.Charging.{charge_stops}
 use Rattle.js_natives.proofs.walks.charge_text_units.Goals as goal
 

@@ -1,5 +1,5 @@
 use Rattle.std.proofs.Common.{◌≡◌, ◌+◌, length}
-use Rattle.js_evaluation.specs.NativeWork.{text_units}
+use Rattle.js_evaluation.specs.Walks.{text_units}
 use Rattle.js_natives.proofs.walks.charge_text_units.Given as goal
 
 abbrev pub invariant-loop-left : goal.invariant-loop-left

@@ -1,7 +1,7 @@
 use Rattle.std.proofs.Common.{◌≡◌, ◌+◌, drop, length, arith, ap}
 use Rattle.heap_steps.proofs.Lists.{list_step}
 use Rattle.js_convert.specs.Texts.{text_of}
-use Rattle.js_evaluation.specs.PacNatives.{units_of}
+use Rattle.js_evaluation.specs.Walks.{units_of}
 use Rattle.js_natives.proofs.Charging.{charge_stops}
 use Rattle.js_natives.proofs.walks.charge_texts.Goals as goal
 

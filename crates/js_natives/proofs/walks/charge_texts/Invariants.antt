@@ -1,5 +1,5 @@
 use Rattle.std.proofs.Common.{◌≡◌, ◌+◌, length}
-use Rattle.js_evaluation.specs.PacNatives.{units_of}
+use Rattle.js_evaluation.specs.Walks.{units_of}
 use Rattle.js_natives.proofs.walks.charge_texts.Given as goal
 
 abbrev pub invariant-loop-left : goal.invariant-loop-left

@@ -10,6 +10,9 @@ returns-in-Expression c = record { goes = λ last. rw c.in-Expression.is (c.expr
 pub returns-in-Suffix : goal.returns-in-Suffix
 returns-in-Suffix c = record { goes = λ last. rw c.in-Suffix.is (c.suffix_back.ensures.goes last); light = c.suffix_back.ensures.light }
 
+pub returns-in-Target : goal.returns-in-Target
+returns-in-Target c = record { goes = λ last. rw c.in-Target.is refl; light = omega arith }
+
 pub returns-in-Statement : goal.returns-in-Statement
 returns-in-Statement c = rw c.in-Statement.is c.statement_back.ensures
 

@@ -1,3 +1,4 @@
+use Rattle.std.proofs.Common.{arith, refl}
 use Rattle.js_statements.proofs.back.loop_back.Goals as goal
 
 pub returns-in-WhileCondition : goal.returns-in-WhileCondition
@@ -31,7 +32,7 @@ pub returns-in-ForInObject : goal.returns-in-ForInObject
 returns-in-ForInObject c = rw c.in-ForInObject.is c.listed.ensures
 
 pub returns-in-ForInTarget : goal.returns-in-ForInTarget
-returns-in-ForInTarget c = rw c.in-ForInTarget.is c.targeted.ensures
+returns-in-ForInTarget c = record { goes = λ last. rw c.in-ForInTarget.is refl; light = omega arith }
 
 pub returns : goal.returns
 returns c = rw c.in-ForInBody.is c.next_name.ensures

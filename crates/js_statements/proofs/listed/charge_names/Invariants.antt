@@ -1,4 +1,4 @@
-use Rattle.std.proofs.Common.{◌≡◌, ◌≤◌, List, drop}
+use Rattle.std.proofs.Common.{◌≡◌, ◌≤◌, drop}
 use Rattle.run_trees.specs.Runs.{After}
 use Rattle.js_evaluation.specs.State.{RunState, RunEnd, Stop}
 use Rattle.js_evaluation.specs.Statements as rule

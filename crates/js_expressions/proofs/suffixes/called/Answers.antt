@@ -1,5 +1,0 @@
-use Rattle.js_machine.specs.Moves.{at}
-use Rattle.js_expressions.proofs.suffixes.called.Goals as goal
-
-pub returns : goal.returns
-returns c = rw c.global_value-this.ensures at c.suffixes_from.ensures

@@ -1,9 +1,0 @@
-use Rattle.js_native_calls.proofs.Steps.{works_back, works_ends}
-use Rattle.heap_values.specs.declared.value.Value.TheVariants as value
-use Rattle.js_expressions.proofs.unary.name_deleted.Goals as goal
-
-pub returns-in_err-value : goal.returns-in_err-value
-returns-in_err-value c = λ v. works_ends _ _ _ _ _ c.from_residual.ensures.1 c.in_err-value.ensures
-
-pub returns : goal.returns
-returns c = λ v. works_back _ _ _ _ c.in_ok-value.ensures

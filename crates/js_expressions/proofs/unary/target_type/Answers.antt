@@ -1,0 +1,8 @@
+use Rattle.js_machine.proofs.Steps.{works_then, works_stops}
+use Rattle.js_expressions.proofs.unary.target_type.Goals as goal
+
+pub returns-in_err-value : goal.returns-in_err-value
+returns-in_err-value c = works_stops _ _ _ _ _ _ c.from_residual.ensures.1 (c.in_err-value.ensures c.args.machine.now.context.this)
+
+pub returns : goal.returns
+returns c = works_then _ _ _ _ _ (c.in_ok-value.ensures c.args.machine.now.context.this) c.type_done.ensures

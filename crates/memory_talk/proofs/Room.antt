@@ -1,0 +1,121 @@
+-- The link has room for all moves of a log where names are few.
+use Rattle.std.proofs.Common.{◌≡◌, ℕ, ◌+◌, true, List, [], ◌∷◌, ◌++◌, length, refl, sym, ◌∙◌, ap, arith}
+use Rattle.std.specs.List.{list_any}
+use Rattle.std.proofs.lemmas.List.{append-nil, length-append, length-map, length_push}
+use Rattle.std.proofs.lemmas.List.Elements.{All-nil}
+use Rattle.js_host.specs.Answers.{AnswerMap}
+use Rattle.pac_ports.specs.declared.link.Move.{Move}
+use Rattle.pac_ports.specs.declared.link.Move.TheVariants as move
+use Rattle.poll_log.specs.declared.question.Question.{Question}
+use Rattle.poll_log.specs.declared.terms.Terms.{Terms}
+use Rattle.poll_log.specs.Turns.{Turns, Begin, Then, Given, Tick, sends, turns_of, with_move, with_moves, with_sent}
+use Rattle.poll_log.specs.Questions.{IsQuestion, asked_in, firsts, octets_of, questions}
+use Rattle.poll_log.specs.Told.{Map, is_dead, told}
+use Rattle.poll_log.specs.Jobs.{IsOwed, Job, SendsOwed, WaitsBefore, waits_unless}
+use Rattle.poll_log.proofs.Dues.{asked_now, firsts_proper}
+use Rattle.poll_log.proofs.TurnLaws.{questions-begin, questions-then}
+use Rattle.pac_generate.specs.Answered.{IsAnswered}
+use Rattle.memory_talk.specs.Laws.{LinkHasRoom, SoundJobsAskFew, events_of, reply_event}
+use Rattle.memory_talk.proofs.Few.{all_sent, few_names}
+use Rattle.memory_talk.proofs.Prompt.{awaited, next_due}
+use Rattle.memory_talk.proofs.Replied.{laws, prompt, room}
+
+pub sound_few : SoundJobsAskFew
+sound_few task sound low waits =
+    record {
+      restartable = sound.restartable;
+      answered = omega (arith, low);
+      early = omega (arith, low, waits);
+      tried = sound.terms.tried;
+    }
+
+-- ---- how many moves a log has
+
+abbrev size : Turns → ℕ
+size h = length (sends h) + length (events_of h)
+
+size_more : (h : Turns) (m : Move) → size (with_move h m) ≡ size h + 1
+unfolding sends events_of
+size_more (Begin sent) (move.Sent octets) = let long = length_push sent octets in omega (arith, long)
+size_more (Then before event sent) (move.Sent octets) =
+    let long = length_push sent octets in
+    let old = length-append (sends before) sent in
+    let new = length-append (sends before) (sent ++ octets ∷ []) in
+    omega (arith, long, old, new)
+size_more h (move.Given octets) =
+    let same : length (sends h ++ []) ≡ length (sends h) = ap length (append-nil (sends h)) in
+    let long = length_push (events_of h) (Given octets) in
+    omega (arith, same, long)
+size_more h move.Tick =
+    let same : length (sends h ++ []) ≡ length (sends h) = ap length (append-nil (sends h)) in
+    let long = length_push (events_of h) Tick in
+    omega (arith, same, long)
+
+sizes : (h : Turns) (moves : List Move) → size (with_moves h moves) ≡ size h + length moves
+unfolding with_moves
+sizes h [] = omega arith
+sizes h (m ∷ moves) =
+    let one = size_more h m in
+    let rest = sizes (with_move h m) moves in
+    omega (arith, one, rest)
+
+size_of : (log : List Move) → size (turns_of log) ≡ length log
+unfolding sends events_of
+size_of log = let all = sizes (Begin []) log in omega (arith, all)
+
+-- each send of a log with the sends that are owed is a question
+module _ (t : Terms) (jobs : List Job) where
+  turn_asks : (earlier before : List Question) (turns : Turns) (sent : List (List ℕ)) → (o : IsOwed t jobs earlier before turns sent) → asked_in sent ≡ o.fresh ++ o.again → length sent ≡ length (asked_in sent)
+  turn_asks earlier before turns sent o asked = ap length o.octets ∙ length-map (o.fresh ++ o.again) octets_of ∙ ap length (sym asked)
+
+  sends_ask : (h : Turns) → SendsOwed t jobs h → length (sends h) ≡ length (questions h)
+  unfolding sends
+  sends_ask (Begin sent) o = turn_asks [] [] (Begin sent) sent o (asked_now t jobs [] [] (Begin sent) sent o (All-nil IsQuestion)) ∙ ap length (sym (questions-begin sent))
+  sends_ask (Then h e sent) o =
+      let before = sends_ask h o.0 in
+      let now = turn_asks (questions h) (firsts h) (Then h e sent) sent o.1 (asked_now t jobs (questions h) (firsts h) (Then h e sent) sent o.1 (firsts_proper t jobs h o.0)) in
+      let all : length (questions (Then h e sent)) ≡ length (questions h) + length (asked_in sent) = ap length (questions-then h e sent) ∙ length-append (questions h) (asked_in sent) in
+      let long = length-append (sends h) sent in
+      omega (arith, before, now, all, long)
+
+-- ---- more sends in the last turn
+
+told_sent : (t : Terms) (h : Turns) (more : List (List ℕ)) → told t (with_sent h more) ≡ told t h
+unfolding told
+told_sent t (Begin sent) more = refl
+told_sent t (Then h e sent) more = refl
+
+answered_sent : (answers : AnswerMap) (h : Turns) (more : List (List ℕ)) → IsAnswered answers h → IsAnswered answers (with_sent h more)
+unfolding IsAnswered
+answered_sent answers (Begin sent) more a = tt
+answered_sent answers (Then h e sent) more a = a
+
+waits_sent : (t : Terms) (jobs : List Job) (h : Turns) (more : List (List ℕ)) → WaitsBefore t jobs h → WaitsBefore t jobs (with_sent h more)
+waits_sent t jobs (Begin sent) more w = w
+waits_sent t jobs (Then h e sent) more w = w
+
+size_sent : (h : Turns) (more : List (List ℕ)) → size (with_sent h more) ≡ size h + length more
+unfolding sends events_of
+size_sent (Begin sent) more = let all = length-append sent more in omega (arith, all)
+size_sent (Then h e sent) more =
+    let all = length-append sent more in
+    let old = length-append (sends h) sent in
+    let new = length-append (sends h) (sent ++ more) in
+    omega (arith, all, old, new)
+
+pub has_room : LinkHasRoom
+has_room most answers t jobs log small few cut answered waits =
+    let h : Turns = turns_of log in
+    let whole : Turns = with_sent h cut.unsent in
+    let p = prompt most answers small t jobs few whole cut.sends (waits_sent t jobs h cut.unsent cut.waits) (answered_sent answers h cut.unsent answered) in
+    let lacks : list_any (λ (job : Job). waits_unless (is_dead t h) (job (told t whole))) jobs ≡ true =
+    ap (λ (M : Map). list_any (λ (job : Job). waits_unless (is_dead t h) (job M)) jobs) (told_sent t h cut.unsent) ∙ waits in
+    let next = next_due answers t whole p (awaited most t whole (is_dead t h) jobs (laws most answers small t jobs few) (all_sent t jobs whole cut.sends) lacks) in
+    let one = room most answers small t jobs few whole cut.sends p next.question next.rest next.parts in
+    let named = few_names most t jobs (laws most answers small t jobs few) whole cut.sends in
+    let asked : length (sends whole) ≡ length (firsts whole) = sends_ask t jobs whole cut.sends ∙ ap length (p.once ∙ sym p.names) in
+    let came : length (events_of whole) ≡ length p.done = ap length p.came ∙ length-map p.done (reply_event answers) in
+    let all = few.answered in
+    let log_size = size_of log in
+    let whole_size = size_sent h cut.unsent in
+    omega (arith, one, named, asked, came, all, log_size, whole_size)
