@@ -14,7 +14,7 @@ import subprocess
 import sys
 import tempfile
 
-from dns import PAC, PATIENT
+from dns import PAC, PATIENT, bound
 from examples import PROGRAM, contents
 from resolve import Server, reply, report
 
@@ -64,7 +64,8 @@ FILES = {
     "built_ins.pac": contents("checks/built_ins.pac"),
     "built_ins.names": b"a.example 10.1.2.3\n",
 }
-# the words of a run, what it writes and its status; a server is asked where the words have an option for it
+# the words of a run, what it writes and its status; a server is asked where the words have an option for it, behind a
+# silent one where that is the option for a second
 RUNS = {
     "two URLs": ("resolve address.pac --batch two.batch --server", TWO_REPORT, 0),
     "a company": ("resolve company.pac --batch company.batch --server", COMPANY_REPORT, 0),
@@ -73,6 +74,7 @@ RUNS = {
     ),
     "check": ("check company.pac", contents("examples/company.printed"), 0),
     "ask": ("ask build.example.net --server", b"address 10.1.2.3\n", 0),
+    "ask again": ("ask build.example.net --second", b"address 10.1.2.3\n", 0),
     "generate": ("generate 1 3", b"seed 1 sites 3\nurls 3 runs 9 names 6\ndirect 1 proxy 1 socks 1\n", 0),
     "no words": ("", b"usage: pac resolve|map|check|ask|generate ARGUMENTS\n", 2),
 }
@@ -104,10 +106,10 @@ def refusing_library(folder):
 
 
 class Runner:
-    """Runs the program in a folder, beside a server, with the library that refuses."""
+    """Runs the program in a folder, beside a server and a silent one, with the library that refuses."""
 
-    def __init__(self, folder, library, port):
-        self.folder, self.library, self.port = folder, library, port
+    def __init__(self, folder, library, port, silent):
+        self.folder, self.library, self.port, self.silent = folder, library, port, silent
         self.program = PAC if "PAC" in os.environ else [os.path.abspath(PROGRAM)]
 
     def found(self, words, **refused):
@@ -115,6 +117,8 @@ class Runner:
         words = words.split()
         if "--server" in words:
             words = [*words[:-1], f"--server=127.0.0.1:{self.port}", *PATIENT]
+        if "--second" in words:
+            words = [*words, f"127.0.0.1:{self.port}", f"--server=127.0.0.1:{self.silent}", "--wait=1", "--tries=8"]
         settings = {**os.environ, "LD_PRELOAD": self.library, **refused}
         pipes = {"stdout": subprocess.PIPE, "stderr": subprocess.PIPE}
         ran = subprocess.run([*self.program, *words], cwd=self.folder, env=settings, timeout=120, check=False, **pipes)
@@ -146,6 +150,10 @@ def check(failures, runner, name):
     return len(places), given_up
 
 
+def check_all(failures, runner):
+    return [check(failures, runner, name) for name in RUNS]
+
+
 def main():
     failures = []
     with tempfile.TemporaryDirectory() as folder:
@@ -156,13 +164,10 @@ def main():
         for name, content in FILES.items():
             with open(os.path.join(folder, name), "wb") as file:
                 file.write(content)
-        server = Server(in_reverse_order())
-        server.start()
-        runner = Runner(folder, library, server.socket.getsockname()[1])
-        counts = [check(failures, runner, name) for name in RUNS]
-        server.is_done.set()
-        server.join()
-        server.socket.close()
+        with bound() as silent:
+            server = Server(in_reverse_order())
+            there = silent.getsockname()[1]
+            counts = server.beside(lambda port: check_all(failures, Runner(folder, library, port, there)))
     for failure in failures[:20]:
         print(f"checks/memory: {failure}")
     runs, given_up = map(sum, zip(*counts))

@@ -10,7 +10,7 @@ from stack import NESTED, TWICE, nested
 
 # the command, the options that ask its server, the other words, files by name, the server (kind and seed) or None
 Case = collections.namedtuple("Case", "command options words files server")
-PORT = "PORT"
+PORT, NOBODY = "PORT", "--server=127.0.0.1:1"
 # how many units of fuel all runs of a call may take together, and how often `resolve` may run a script for a URL
 FUEL = 3_000_000
 AGAIN = 6
@@ -24,7 +24,8 @@ SIGNS = """( ) [ ] { } , ; => /* */ // <!-- ' " \\ \\u12 0x 08 1.5 1e3 /a/ ` = +
 default with class get set else catch finally \ufeff \x7f \u00e9 \U0001f600""".split()
 SIGNS += [" ", "\t", "\r\n", "\r", "\0", "\u2028"]
 ODD_WORDS = """- -- -h --help --fuel --names --batch= --fuel=0 --fuel=1000000001 --my-ip=1.2.3 --zone=x --now=-1
---wait=0 --tries=9 --batch=absent . --names=/dev/null absent --fuel=000000000000000000020 \udcff --no\u00e9""".split()
+--wait=0 --tries=9 --batch=absent . --names=/dev/null absent --fuel=000000000000000000020 \udcff --no\u00e9 --second
+--second=1.2.3.4:0""".split()
 ODD_WORDS += [""]
 ASKED = ["a.example", "A.B.", "10.0.0.1", "300.1.1.1", "x", "a..b", "-", "\u00e9"]
 ASKED += ["a" * 64, "a." * 126 + "a", "a." * 127]
@@ -156,14 +157,21 @@ class Mutants:
 
 
 def server_of(chance, is_small):
-    """The seed of a server, and the options that ask it. Where nothing is lost, a reply has ten seconds."""
+    """The seed of a server, and the options that ask it, alone or behind a silent one. Where nothing is lost, a reply has
+    ten seconds or more.
+    """
     draw = chance.random()
+    if draw < 0.05:
+        return None, ["--server=255.255.255.255"]
     if draw < 0.1:
-        return None, ["--server=127.0.0.1:1"]
-    seed = chance.randrange(1 << 32)
-    option = chance.choice([["--server", f"127.0.0.1:{PORT}"], [f"--server=127.0.0.1:{PORT}"]])
-    if draw < 0.85 and is_small:
+        return None, [NOBODY, "--second=127.0.0.1:2", "--wait=1", f"--tries={chance.choice([1, 2])}"]
+    seed, there = chance.randrange(1 << 32), f"127.0.0.1:{PORT}"
+    option = chance.choice([["--server", there], [f"--server={there}"]])
+    if draw < 0.75 and is_small:
         return ("calm", seed), [*option, "--wait=100", "--tries=1"]
+    if draw < 0.85 and is_small:
+        return ("calm", seed), [NOBODY, "--second", there, "--wait=1", "--tries=8"]
+    option += chance.choice([[], [], [f"--second={there}"], ["--second=127.0.0.1:1"]])
     return ("rough", seed), [*option, f"--wait={chance.choice([1, 1, 2])}", f"--tries={chance.choice([1, 2, 3])}"]
 
 

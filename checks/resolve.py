@@ -1,5 +1,5 @@
-"""Resolves batches through `pac resolve` beside real servers: dnsmasq on a high port of loopback, and servers that
-delay, lose, double, reorder and forge.
+"""Resolves batches through `pac resolve` beside real servers, one or two of them: dnsmasq on a high port of loopback,
+and servers that delay, lose, double, reorder and forge, or are silent.
 
 The large batch has 256 URLs, whose script asks for the name of each host and for one of ten that they share; what is
 written is compared whole with what this file computes. Without dnsmasq (a Debian package) its part says 'skipped'. The
@@ -17,7 +17,7 @@ import tempfile
 import threading
 import time
 
-from dns import PAC, PATIENT, bound, compare, free_port, wait_for
+from dns import EVERYBODY, HALF, PAC, PATIENT, bound, compare, free_port, second, see_time, wait_for
 
 SCRIPT = """function FindProxyForURL(url, host) {
   if (isPlainHostName(host)) return "DIRECT";
@@ -55,16 +55,20 @@ def tries(end):
     return [f"try {proxy}" for proxy in end.removeprefix("result ").split("; ")] if end.startswith("result ") else []
 
 
-def resolve(port, script, urls, *options):
+def resolve_at(server, script, urls, *options):
     """What `pac resolve` writes for a batch, and its status."""
     with tempfile.TemporaryDirectory() as folder:
         names = [os.path.join(folder, name) for name in ("script.pac", "batch")]
         for name, text in zip(names, [script, "".join(f"get {url}\n" for url in urls)]):
             with open(name, "w", encoding="ascii") as file:
                 file.write(text)
-        words = [*PAC, "resolve", names[0], "--batch", names[1], f"--server=127.0.0.1:{port}", *options]
+        words = [*PAC, "resolve", names[0], "--batch", names[1], f"--server={server}", *options]
         found = subprocess.run(words, stdout=subprocess.PIPE, stderr=subprocess.PIPE, timeout=120, check=False)
     return found.stdout + found.stderr, found.returncode
+
+
+def resolve(port, script, urls, *options):
+    return resolve_at(f"127.0.0.1:{port}", script, urls, *options)
 
 
 def name_in(datagram):
@@ -99,11 +103,14 @@ def other_number(datagram):
 
 
 class Server(threading.Thread):
-    """Answers each question by `make`, which gives datagrams with the seconds until each is sent; keeps questions."""
+    """Answers each question by `make`, which gives datagrams with the seconds until each is sent; keeps questions. It
+    sends from its own socket, or from another one.
+    """
 
-    def __init__(self, make):
-        super().__init__()
+    def __init__(self, make, mouth=None):
+        super().__init__(daemon=True)
         self.make, self.socket, self.is_done = make, bound(), threading.Event()
+        self.mouth = mouth or self.socket
         self.socket.setsockopt(socket.SOL_SOCKET, socket.SO_RCVBUF, 1 << 20)
         self.questions, self.waiting = collections.defaultdict(list), []
 
@@ -122,7 +129,7 @@ class Server(threading.Thread):
     def send_due(self):
         while self.waiting and self.waiting[0][0] <= time.monotonic():
             _, _, piece, near = heapq.heappop(self.waiting)
-            self.socket.sendto(piece, near)
+            self.mouth.sendto(piece, near)
 
     def take(self, datagram, near):
         asked = self.questions[name_in(datagram)]
@@ -153,9 +160,47 @@ class Server(threading.Thread):
         return self.beside(lambda port: resolve(port, script, urls, *options))
 
     def is_sound(self):
-        """Whether all that came were questions, each name under one number."""
-        asked = self.questions.items()
-        return all(set(them) == {question(int.from_bytes(them[0][:2], "big"), name)} for name, them in asked)
+        return are_sound([self])
+
+
+class Nobody:
+    """A port that nobody listens on."""
+
+    def __init__(self):
+        self.questions = {}
+
+    def beside(self, call):
+        return call(free_port())
+
+
+def are_sound(servers):
+    """Whether all that came were questions, each name under one number, whichever server was asked."""
+    asked = collections.defaultdict(list)
+    for server in servers:
+        for name, datagrams in server.questions.items():
+            asked[name] += datagrams
+    return all(set(them) == {question(int.from_bytes(them[0][:2], "big"), name)} for name, them in asked.items())
+
+
+def resolved_by(servers, script, urls, *options):
+    """What `pac resolve` writes for a batch beside two servers, its status, and how many seconds it took."""
+
+    def call(port, other):
+        begun = time.monotonic()
+        found = resolve(port, script, urls, second(other), *options)
+        return found, time.monotonic() - begun
+
+    return servers[0].beside(lambda port: servers[1].beside(lambda other: call(port, other)))
+
+
+def two(first, other):
+    """Two servers by what they send; None is a port that nobody listens on."""
+    return [Server(make) if make else Nobody() for make in (first, other)]
+
+
+def counts_of(server):
+    """How often the names were asked of a server that it was asked for."""
+    return {len(datagrams) for datagrams in server.questions.values()}
 
 
 LARGE = (SCRIPT, [f"http://{host}/" for host in HOSTS])
@@ -178,21 +223,53 @@ def is_kept(asked):
 
 
 def doubled(asked):
-    """The reply, and another one, which changes nothing."""
-    return [(0, answer(asked)), (0, reply(asked.datagram, "10.9.9.9"))]
+    """The reply, and another one, which changes nothing. They come spread over some time, so that no socket is full."""
+    seconds = asked.place / 4000
+    return [(seconds, answer(asked)), (seconds, reply(asked.datagram, "10.9.9.9"))]
+
+
+def nothing(asked):
+    return []
+
+
+def now(asked):
+    return [(0, answer(asked))]
+
+
+def first_half(asked):
+    """The reply, where the number in the name is even."""
+    return now(asked) if asked.name[:-len(".example")][-1] in "02468" else []
+
+
+def other_half(asked):
+    return [] if first_half(asked) else now(asked)
+
+
+def lossy(asked):
+    return now(asked) if is_kept(asked) else []
 
 
 # where the server loses replies, or a socket that is full does, names are asked again soon, and often
-LOSSY = ["--wait=5", "--tries=8"]
+LOSSY = ["--wait=3", "--tries=6"]
 # servers: what they send, the options, how often each name is asked at least and at most
 SERVERS = {
-    "at once": (lambda asked: [(0, answer(asked))], PATIENT, 1, 1),
+    "at once": (now, PATIENT, 1, 1),
     "after up to 80 ms": (lambda asked: [(NOISE.random() * 0.08, answer(asked))], PATIENT, 1, 1),
     "in reverse order": (lambda asked: [(0.2 - asked.place / 2000, answer(asked))], PATIENT, 1, 1),
-    "doubled": (doubled, LOSSY, 1, 8),
-    "forged": (forged, LOSSY, 1, 8),
-    "lost twice": (lambda asked: [(0, answer(asked))] if asked.turn > 2 else [], LOSSY, 3, 8),
-    "one in three lost": (lambda asked: [(0, answer(asked))] if is_kept(asked) else [], LOSSY, 1, 8),
+    "doubled": (doubled, LOSSY, 1, 6),
+    "forged": (forged, LOSSY, 1, 6),
+    "lost twice": (lambda asked: now(asked) if asked.turn > 2 else [], LOSSY, 3, 6),
+    "one in three lost": (lossy, LOSSY, 1, 6),
+}
+# pairs of servers, None where nobody listens
+PAIRS = {
+    "the first silent": (nothing, now),
+    "nobody the first": (None, now),
+    "the second silent": (now, nothing),
+    "nobody the second": (now, None),
+    "each silent for half": (first_half, other_half),
+    "each loses one in three": (lossy, lossy),
+    "both forging": (forged, forged),
 }
 
 
@@ -200,11 +277,39 @@ def with_scripted_servers(failures):
     for name, (make, options, least, most) in SERVERS.items():
         server = Server(make)
         compare(failures, f"256 URLs, {name}", server.resolved(*LARGE, *options), (LARGE_REPORT, 0))
-        counts = {len(datagrams) for datagrams in server.questions.values()}
+        counts = counts_of(server)
         is_often = least <= min(counts, default=0) and max(counts, default=0) <= most
         if set(server.questions) != set(ADDRESSES) or not server.is_sound() or not is_often:
             failures.append(f"256 URLs, {name}: {len(server.questions)} names were asked, {counts} times")
     return len(SERVERS)
+
+
+def with_pairs(failures):
+    for name, (first, other) in PAIRS.items():
+        servers = two(first, other)
+        compare(failures, f"256 URLs, {name}", resolved_by(servers, *LARGE, *LOSSY)[0], (LARGE_REPORT, 0))
+        names = [set(server.questions) for server in servers]
+        if first and names[0] != set(ADDRESSES) or not names[1] <= set(ADDRESSES) or not are_sound(servers):
+            failures.append(f"256 URLs, {name}: {list(map(len, names))} names were asked")
+    return len(PAIRS)
+
+
+def beside_a_silent_server(failures):
+    """How long the large batch takes, at best. Its names are asked in two rounds, and where the first server is silent
+    each of them is a wait of half a second.
+    """
+    pairs = {"good, silent": (now, nothing), "silent, good": (nothing, now)}
+    taken = {name: [] for name in pairs}
+    for name in [*pairs] * 3:
+        found, seconds = resolved_by(two(*pairs[name]), *LARGE, *HALF, "--tries=6")
+        compare(failures, f"256 URLs, {name}", found, (LARGE_REPORT, 0))
+        taken[name].append(seconds)
+    best = {name: min(seconds) for name, seconds in taken.items()}
+    told = "; ".join(f"{name}: {seconds * 1000:.0f} ms" for name, seconds in best.items())
+    print(f"checks/resolve: 256 URLs over 266 names in two rounds of 500 ms, {told}")
+    if not 1 <= best["silent, good"] <= 3 * 2 * 0.53:
+        failures.append(f"256 URLs in two rounds of 500 ms: {told}")
+    return 1
 
 
 def with_dnsmasq(failures):
@@ -223,10 +328,12 @@ def with_dnsmasq(failures):
         try:
             wait_for(port)
             compare(failures, "256 URLs, dnsmasq", resolve(port, *LARGE, *LOSSY), (LARGE_REPORT, 0))
+            found = resolve(free_port(), *LARGE, second(port), *LOSSY)
+            compare(failures, "256 URLs, dnsmasq the second", found, (LARGE_REPORT, 0))
         finally:
             server.terminate()
             server.wait(timeout=10)
-    return 1
+    return 2
 
 
 ADDRESS = """function FindProxyForURL(url, host) {
@@ -238,6 +345,7 @@ ADDRESS = """function FindProxyForURL(url, host) {
 A, B, LOOP, PLAIN = "http://a.example/", "http://b.example/", "http://loop.example/", "http://plain/"
 ONE = "10.0.0.1"
 DONE, SILENT, DIRECT = (f"result PROXY {ONE}:80", 2), ("unanswered a.example", 1), ("result DIRECT", 1)
+SILENT_B = ("unanswered b.example", 1)
 # 26 units of fuel are spent before the loop, and then two a turn, the first of them on its condition
 SPENT = ("fault F1 FuelSpent at 3:38", 1)
 
@@ -282,8 +390,8 @@ SMALL = {
     "a name error": (
         lambda asked: [(0, reply(asked.datagram, None))], [A], PATIENT, [("result PROXY null:80", 2)], 0, {1},
     ),
-    "silence": (lambda asked: [], [A, PLAIN, A], QUICK, [SILENT, DIRECT, SILENT], 5, {3}),
-    "silence for one of two": (silent_of_a, [A, B], ["--wait=20", "--tries=2"], [SILENT, DONE], 5, {1, 2}),
+    "silence": (nothing, [A, PLAIN, A], QUICK, [SILENT, DIRECT, SILENT], 5, {3}),
+    "silence for one of two": (silent_of_a, [A, B], ["--wait=15", "--tries=2"], [SILENT, DONE], 5, {1, 2}),
     "a reply after the last try": (lambda asked: [(9, reply(asked.datagram, ONE))], [A], QUICK, [SILENT], 5, {3}),
     "noise": (noisy, [A, B], PATIENT, [DONE, DONE], 0, {1}),
     "noise alone": (noise, [A], QUICK, [SILENT], 5, {3}),
@@ -296,12 +404,79 @@ SMALL = {
 def with_small_batches(failures):
     for name, (make, urls, options, ends, status, times) in SMALL.items():
         server = Server(make)
-        expected = report(*((url, *end) for url, end in zip(urls, ends))), status
+        expected = report_of(urls, ends), status
         compare(failures, name, server.resolved(ADDRESS, urls, *options), expected)
-        counts = {len(datagrams) for datagrams in server.questions.values()}
-        if counts != times or not server.is_sound():
+        if counts_of(server) != times or not server.is_sound():
             failures.append(f"{name}: the questions were {dict(server.questions)}")
     return len(SMALL)
+
+
+def report_of(urls, ends):
+    return report(*((url, *end) for url, end in zip(urls, ends)))
+
+
+def forged_in(seconds):
+    """Another address, so many seconds later."""
+    return lambda asked: [(seconds, reply(asked.datagram, "10.9.9.9"))]
+
+
+def flood_alone(asked):
+    return [(0, b"")] * 10_000
+
+
+def late(asked):
+    return [(0.7, reply(asked.datagram, ONE))]
+
+
+# pairs of servers, None where nobody listens: what they send, the URLs, the options, what each URL comes to, the
+# status, how often each name is asked of either, where that is certain, and how many beats of 100 ms it lasts at least
+TWICE = [*HALF, "--tries=2"]
+SMALL_PAIRS = {
+    "the first silent": (nothing, at_once, [A, B, A], HALF, [DONE] * 3, 0, [{1}, {1}], 5),
+    "nobody the first": (None, at_once, [A, PLAIN, B], HALF, [DONE, DIRECT, DONE], 0, [set(), {1}], 5),
+    "the first silent for one": (silent_of_a, at_once, [A, B], HALF, [DONE, DONE], 0, [{1}, {1}], 5),
+    "the second silent for one": (at_once, silent_of_a, [A, B], PATIENT, [DONE, DONE], 0, [{1}, set()], 0),
+    "both silent for one": (silent_of_a, silent_of_a, [B, A], TWICE, [DONE, SILENT], 5, [{1}, {1}], 15),
+    "both silent": (nothing, nothing, [A, PLAIN, B], QUICK, [SILENT, DIRECT, SILENT_B], 5, [{2}, {1}], 7),
+    "nobody at all": (None, None, [A, PLAIN, B], QUICK, [SILENT, DIRECT, SILENT_B], 5, [set(), set()], 7),
+    "the second sooner": (forged_in(1.5), at_once, [A], HALF, [DONE], 0, [{1}, {1}], 5),
+    "the first sooner": (late, forged_in(1), [A], HALF, [DONE], 0, [{1}, {1}], 7),
+    "both flooding": (flood, flood, [A, B], ["--wait=1", "--tries=8"], [DONE, DONE], 0, None, 0),
+    "both flooding without a reply": (flood_alone, flood_alone, [A, B], QUICK, [SILENT, SILENT_B], 5, None, 0),
+    "both with noise": (noise, noisy, [A, B], HALF, [DONE, DONE], 0, [{1}, {1}], 5),
+}
+
+
+def see(failures, name, servers, found, expected, times):
+    """Compares what was found beside servers, and how often each of them was asked for a name, where that is told."""
+    compare(failures, name, found, expected)
+    if times and times != list(map(counts_of, servers)) or not are_sound(servers):
+        failures.append(f"{name}: the questions were {[dict(server.questions) for server in servers]}")
+
+
+def with_small_pairs(failures):
+    for name, (first, other, urls, options, ends, status, times, beats) in SMALL_PAIRS.items():
+        servers = two(first, other)
+        found, taken = resolved_by(servers, ADDRESS, urls, *options)
+        see(failures, name, servers, found, (report_of(urls, ends), status), times)
+        see_time(failures, name, taken, beats)
+    return len(SMALL_PAIRS)
+
+
+def with_other_sockets(failures):
+    """What is sent to the first server is answered by the second one, which was not asked, and taken; or by a third
+    address, and not taken.
+    """
+    other = Server(nothing)
+    servers = [Server(at_once, other.socket), other]
+    found, _ = resolved_by(servers, ADDRESS, [A, B], *PATIENT)
+    see(failures, "the second for the first", servers, found, (report_of([A, B], [DONE, DONE]), 0), [{1}, set()])
+    with bound() as third:
+        servers = [Server(at_once, third), Server(at_once, third)]
+        found, _ = resolved_by(servers, ADDRESS, [A, B], *QUICK)
+        expected = report_of([A, B], [SILENT, SILENT_B]), 5
+        see(failures, "a third for both", servers, found, expected, [{2}, {1}])
+    return 2
 
 
 def with_a_dead_name(failures):
@@ -322,19 +497,25 @@ def with_a_dead_name(failures):
 
 def without_a_server(failures):
     port = free_port()
-    compare(failures, "a refused port", resolve(port, ADDRESS, [PLAIN, A, B]), (b"fault link\n", 6))
+    expected = report_of([PLAIN, A, B], [DIRECT, SILENT, SILENT_B])
+    compare(failures, "a refused port", resolve(port, ADDRESS, [PLAIN, A, B], *QUICK), (expected, 5))
+    failed = (b"fault link\n", 6)
+    compare(failures, "a server that nothing can be sent to", resolve_at(EVERYBODY, ADDRESS, [PLAIN, A]), failed)
+    found = resolve(port, ADDRESS, [PLAIN, A], f"--second={EVERYBODY}", "--wait=1")
+    compare(failures, "a second server that nothing can be sent to", found, failed)
     expected = report((PLAIN, *DIRECT))
     compare(failures, "a refused port that nobody wants", resolve(port, ADDRESS, [PLAIN]), (expected, 0))
     bad = (b"refused batch 2 BadUrl\n", 4)
     compare(failures, "a refused batch", resolve(port, ADDRESS, [A, "mailto:a@example.com"]), bad)
     many = (b"refused batch 257 TooMany\n", 4)
     compare(failures, "257 URLs", resolve(port, ADDRESS, [A] * 257), many)
-    return 4
+    return 6
 
 
 def main():
     failures = []
-    parts = [with_scripted_servers, with_dnsmasq, with_small_batches, with_a_dead_name, without_a_server]
+    parts = [with_scripted_servers, with_pairs, beside_a_silent_server, with_dnsmasq, with_small_batches]
+    parts += [with_small_pairs, with_other_sockets, with_a_dead_name, without_a_server]
     count = sum(part(failures) for part in parts)
     for failure in failures:
         print(f"checks/resolve: {failure}")

@@ -1,5 +1,5 @@
 // What `pac` answers over a script and a names file, and where the clock shows a moment. It has no link.
-use crate::calls::{status_at, status_of};
+use crate::calls::status_of;
 use crate::network::Network;
 use anyhow::{Result, bail};
 use case_rows::{octets, written_octets};
@@ -20,9 +20,8 @@ pub(crate) fn at_moment(alloc: Global, fields: &[&str]) -> Result<String> {
     };
     let mut files = files_of(alloc, &octets(alloc, script)?, b"")?;
     let mut out = MemorySink::new(alloc, 1000)?;
-    let mut network = Network::none(alloc)?;
-    let moment = moment.parse::<i64>()?;
-    let status = status_at(alloc, moment, words, &mut files, &mut out, &mut network)?;
+    let mut network = Network::none(alloc, moment.parse::<i64>()?)?;
+    let status = status_of(alloc, words, &mut files, &mut out, &mut network)?;
     written(alloc, status, out.bytes())
 }
 
@@ -94,7 +93,7 @@ fn answer_over(
     files: &mut MemoryFiles,
     out: &mut MemorySink,
 ) -> Result<Status> {
-    let mut network = Network::none(alloc)?;
+    let mut network = Network::none(alloc, 0)?;
     status_of(alloc, words, files, out, &mut network)
 }
 

@@ -4,13 +4,13 @@ ghost use Rattle.std.specs.Prelude.{◌≡◌, ◌<◌};
 use crate::network::Network;
 use anyhow::Result;
 use pac_command::{Status, pac};
-use pac_ports::{FixedClock, ListDice, MemoryFiles, MemoryLink, Sink};
+use pac_ports::{MemoryFiles, Sink};
 use std::alloc::Global;
 use std::marker::Brand;
 use std::sync::ledger::{Blank, Ledger};
 use step_counter::Steps;
 
-/// The status of words that are parted by blanks, in the first second of 1970.
+/// The status of words that are parted by blanks.
 pub(crate) fn status_of<K: Sink>(
     alloc: Global,
     line: &str,
@@ -18,29 +18,9 @@ pub(crate) fn status_of<K: Sink>(
     out: &mut K,
     network: &mut Network,
 ) -> Result<Status> {
-    status_at(alloc, 0, line, files, out, network)
-}
-
-/// Their status where the clock shows this moment.
-pub(crate) fn status_at<K: Sink>(
-    alloc: Global,
-    moment: i64,
-    line: &str,
-    files: &mut MemoryFiles,
-    out: &mut K,
-    network: &mut Network,
-) -> Result<Status> {
     let words = words_in(alloc, line)?;
-    Ok(called::<K, Brand>(
-        alloc,
-        &words,
-        files,
-        out,
-        &mut network.link,
-        &mut network.dice,
-        FixedClock::new(moment),
-        Blank::new(1),
-    ))
+    let blank = Blank::new(1);
+    Ok(called::<K, Brand>(alloc, &words, files, out, network, blank))
 }
 
 fn words_in(alloc: Global, line: &str) -> Result<Vec<String>> {
@@ -57,9 +37,7 @@ fn called<K: Sink, L: Ledger>(
     words: &Vec<String>,
     files: &mut MemoryFiles,
     out: &mut K,
-    link: &mut MemoryLink,
-    dice: &mut ListDice,
-    mut clock: FixedClock,
+    network: &mut Network,
     blank: Blank,
 ) -> Status
     requires name { blank.name ≡ L.name }
@@ -67,5 +45,14 @@ fn called<K: Sink, L: Ledger>(
     requires some { 0 < blank.parts }
 {
     let mut runs = Steps::<L>::new(blank);
-    pac(alloc, words, files, out, link, &mut clock, dice, &mut runs)
+    pac(
+        alloc,
+        words,
+        files,
+        out,
+        &mut network.link,
+        &mut network.clock,
+        &mut network.dice,
+        &mut runs,
+    )
 }

@@ -1,16 +1,17 @@
 // The moves of a link.
 use crate::messages::question_in;
 use anyhow::Result;
-use pac_ports::{Move, MoveList};
+use pac_ports::{Move, MoveList, Which};
 use std::alloc::Global;
 
 /// How moves are written.
 #[derive(Clone, Copy)]
 pub(crate) enum Form {
-    /// `sent:NAME/NUMBER` for a question and else `sent:other`, `given`, and `tick`, each behind a blank; behind those
-    /// that come more than once in a row stands `*` and their count.
+    /// `first:NAME/NUMBER` or `second:NAME/NUMBER` for a question, by its server, and `first:other` or `second:other` for
+    /// what is none, `given`, and `tick`, each behind a blank; behind those that come more than once in a row stands `*`
+    /// and their count.
     Questions,
-    /// `sent`, `given` and `tick`, each with how often it comes in a row, and each before a blank.
+    /// `first`, `second`, `given` and `tick`, each with how often it comes in a row, and each before a blank.
     Kinds,
 }
 
@@ -33,18 +34,22 @@ pub(crate) fn written(alloc: Global, form: Form, moves: &MoveList) -> Result<Str
 
 fn word_of(alloc: Global, form: Form, made: &Move) -> Result<String> {
     match made {
-        Move::Sent(octets) => sent(alloc, form, octets.as_slice()),
+        Move::Sent(to, octets) => sent(alloc, form, *to, octets.as_slice()),
         Move::Given(_) => Ok(String::from_str(alloc, "given")?),
         Move::Tick => Ok(String::from_str(alloc, "tick")?),
     }
 }
 
-fn sent(alloc: Global, form: Form, octets: &[u8]) -> Result<String> {
+fn sent(alloc: Global, form: Form, to: Which, octets: &[u8]) -> Result<String> {
+    let server = match to {
+        Which::First => "first",
+        Which::Second => "second",
+    };
     match form {
-        Form::Kinds => Ok(String::from_str(alloc, "sent")?),
+        Form::Kinds => Ok(String::from_str(alloc, server)?),
         Form::Questions => match question_in(alloc, octets)? {
-            Some(question) => Ok(format!(in alloc; "sent:{question}")?),
-            None => Ok(String::from_str(alloc, "sent:other")?),
+            Some(question) => Ok(format!(in alloc; "{server}:{question}")?),
+            None => Ok(format!(in alloc; "{server}:other")?),
         },
     }
 }

@@ -1,30 +1,34 @@
 // What a call of `pac` is handed beside files and a sink.
 use crate::coming::link_over;
 use anyhow::Result;
-use pac_ports::{ListDice, MemoryLink, MoveList};
+use pac_ports::{FixedClock, ListDice, MemoryLink, MoveList};
 use std::alloc::Global;
 
-/// A link in memory, and numbers for questions.
+/// A link in memory, a clock that stands still, and numbers for questions.
 #[derive(Drop)]
 pub(crate) struct Network {
     pub(crate) link: MemoryLink,
+    pub(crate) clock: FixedClock,
     pub(crate) dice: ListDice,
 }
 
 impl Network {
-    /// A link without room for a move, and no number.
-    pub(crate) fn none(alloc: Global) -> Result<Network> {
+    /// A link without room for a move, a clock at this moment, and no number.
+    pub(crate) fn none(alloc: Global, moment: i64) -> Result<Network> {
         Ok(Network {
-            dice: ListDice::new(Vec::new(alloc)),
             link: MemoryLink::new(alloc, 0)?,
+            clock: FixedClock::new(moment),
+            dice: ListDice::new(Vec::new(alloc)),
         })
     }
 
-    /// The dice give these numbers, which are parted by blanks, and then those that follow the last one.
+    /// The clock stands in the first second of 1970. The dice give these numbers, which are parted by blanks, and then
+    /// those that follow the last one.
     pub(crate) fn new(alloc: Global, dice: &str, coming: &str) -> Result<Network> {
         Ok(Network {
-            dice: ListDice::new(numbers(alloc, dice)?),
             link: link_over(alloc, coming)?,
+            clock: FixedClock::new(0),
+            dice: ListDice::new(numbers(alloc, dice)?),
         })
     }
 

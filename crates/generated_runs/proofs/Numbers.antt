@@ -7,7 +7,7 @@ use Rattle.pac_ports.specs.Faults.{last_count, raised}
 use Rattle.pac_ports.specs.declared.link.Move.{Move}
 use Rattle.pac_ports.specs.declared.link.Move.TheVariants as move
 use Rattle.poll_log.specs.declared.question.Question.{Question}
-use Rattle.poll_log.specs.Turns.{Turns, Begin, Then, turns_of, with_move, with_moves}
+use Rattle.poll_log.specs.Turns.{Outgoing, Turns, Begin, Then, turns_of, with_move, with_moves}
 use Rattle.poll_log.specs.Questions.{asked_by, asked_in, drawn, firsts, has_name, new_among, onto_unless}
 use Rattle.poll_loop.specs.Numbers.{GaveAll}
 use Rattle.memory_talk.specs.Numbers.{counted}
@@ -19,9 +19,9 @@ abbrev sent_count : Turns → ℕ
 sent_count (Begin sent) = length sent
 sent_count (Then before event sent) = sent_count before + length sent
 
-asked_few : (sent : List (List ℕ)) → length (asked_in sent) ≤ length sent
+asked_few : (sent : List Outgoing) → length (asked_in sent) ≤ length sent
 asked_few [] = omega arith
-asked_few (octets ∷ sent) = go (asked_by octets) (asked_few sent)
+asked_few (d ∷ sent) = go (asked_by d.octets) (asked_few sent)
   where
     go : (q : Option Question) → length (asked_in sent) ≤ length sent → length (cons_option q (asked_in sent)) ≤ suc (length sent)
     go None h = omega (arith, h)
@@ -48,8 +48,8 @@ firsts_few (Then before event sent) =
     omega (arith, rest, one, two, all)
 
 move_few : (turns : Turns) (m : Move) → sent_count (with_move turns m) ≤ sent_count turns + 1
-move_few (Begin sent) (move.Sent octets) = let all = length-append sent (octets ∷ []) in omega (arith, all)
-move_few (Then before event sent) (move.Sent octets) = let all = length-append sent (octets ∷ []) in omega (arith, all)
+move_few (Begin sent) (move.Sent to octets) = let all = length-append sent (record { to = to; octets = octets } ∷ []) in omega (arith, all)
+move_few (Then before event sent) (move.Sent to octets) = let all = length-append sent (record { to = to; octets = octets } ∷ []) in omega (arith, all)
 move_few turns (move.Given octets) = omega arith
 move_few turns move.Tick = omega arith
 

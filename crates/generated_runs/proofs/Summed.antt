@@ -15,9 +15,9 @@ use Rattle.poll_log.specs.Turns.{turns_of}
 use Rattle.poll_log.specs.Questions.{firsts}
 use Rattle.poll_loop.specs.Task.{Talk}
 use Rattle.poll_loop.specs.Talks as loop
-use Rattle.poll_loop.specs.declared.looping.Asking.{Asking}
-use Rattle.poll_loop.specs.declared.looping.Stop.{Stop}
-use Rattle.poll_loop.specs.declared.looping.Stop.TheVariants as stop
+use Rattle.poll_loop.specs.declared.looping.Upstream.{Upstream}
+use Rattle.poll_loop.specs.declared.looping.PollError.{PollError}
+use Rattle.poll_loop.specs.declared.looping.PollError.TheVariants as error
 use Rattle.report_text.specs.Report.{UrlEnd}
 use Rattle.pac_generate.specs.Answered.{IsAnswered}
 use Rattle.pac_generate.specs.MapLink.{MapLinkState, link_of, new_map_link}
@@ -28,7 +28,7 @@ use Rattle.memory_talk.specs.Talks.{MemoryTalk}
 use Rattle.memory_talk.proofs.Answering.{answering}
 use Rattle.memory_talk.proofs.Ends.{answered_early, answered_whole, names_counted, same_log}
 use Rattle.url_runs.specs.Runs.{ScriptRuns}
-use Rattle.url_runs.specs.Ends.{HaveEnded}
+use Rattle.url_runs.specs.Ends.{HaveEnded, around}
 use Rattle.url_runs.specs.Resolving.{ended, urls_talk}
 use Rattle.generated_runs.specs.declared.summing.Seed.{Seed}
 use Rattle.generated_runs.specs.Summing.{said, sum_plan, summary}
@@ -53,13 +53,13 @@ with_runs o runs = record o { runs = runs }
 
 -- what the talk has for an outside, beside that of the command: a link and dice in memory
 abbrev beside : Outside → MapLinkState → ℕ → ℕ → Outside
-beside o link n runs = record o { link = link_of link; dice = Some (counted n); runs = runs }
+beside o link n runs = around o (link_of link) (Some (counted n)) runs
 
 -- A talk that begins over a fresh link and dice that gave no number, and leaves these.
-module _ (answers : AnswerMap) (asking : Asking) (program : ScriptRuns) (entries : List Entry) (o : Outside) (fresh link : MapLinkState) (none n before after : ℕ)
+module _ (answers : AnswerMap) (upstream : Upstream) (program : ScriptRuns) (entries : List Entry) (o : Outside) (fresh link : MapLinkState) (none n before after : ℕ)
     (is_fresh : fresh ≡ new_map_link) (is_none : none ≡ 0) (answered : IsAnswered answers (turns_of link.log)) where
   abbrev talk : Talk
-  talk = urls_talk asking program entries
+  talk = urls_talk upstream program entries
 
   abbrev inner : Outside
   inner = beside o fresh none before
@@ -68,7 +68,7 @@ module _ (answers : AnswerMap) (asking : Asking) (program : ScriptRuns) (entries
   inner' = beside o link n after
 
   abbrev plan : Seed → plans.Plan MemoryTalk
-  plan from = sum_plan from answers asking program entries
+  plan from = sum_plan from answers upstream program entries
 
   began : inner.link ≡ link_of new_map_link
   began = ap link_of is_fresh
@@ -77,17 +77,17 @@ module _ (answers : AnswerMap) (asking : Asking) (program : ScriptRuns) (entries
   undrawn = ap (λ (count : ℕ). Some (counted count)) is_none
 
   -- memory ran out in the talk or behind it
-  pub ends_early : (from : Seed) (e : Stop) → HaveEnded asking program entries inner (Err e) inner' → Follows answering (plan from) (with_runs o before) (with_runs o after) None
+  pub ends_early : (from : Seed) (e : PollError) → HaveEnded upstream program entries inner (Err e) inner' → Follows answering (plan from) (with_runs o before) (with_runs o after) None
   ends_early from e h = go e h
     where
       early : (end : End) (log : List Move) → loop.Talked talk inner end log inner' → Follows answering (plan from) (with_runs o before) (with_runs o after) None
       early end log t = (unfinished, log, answered_early talk answers inner inner' (with_runs o before) end log link t began refl answered refl, refl)
 
-      go : (e : Stop) → HaveEnded asking program entries inner (Err e) inner' → Follows answering (plan from) (with_runs o before) (with_runs o after) None
-      go stop.Link h = early plans.faulted h.0 h.1
-      go stop.Memory h = early h.0 h.1 h.2
+      go : (e : PollError) → HaveEnded upstream program entries inner (Err e) inner' → Follows answering (plan from) (with_runs o before) (with_runs o after) None
+      go error.Link h = early plans.faulted h.0 h.1
+      go error.Memory h = early h.0 h.1 h.2
 
-  module _ (small : AreAddresses answers) (fits : length link.log ≤ MOST_MOVES) (ends : List UrlEnd) (all : HaveEnded asking program entries inner (Ok ends) inner') where
+  module _ (small : AreAddresses answers) (fits : length link.log ≤ MOST_MOVES) (ends : List UrlEnd) (all : HaveEnded upstream program entries inner (Ok ends) inner') where
     talk_log : link.log ≡ all.0
     talk_log = same_log talk inner inner' whole all.0 link all.1 began refl
 
@@ -99,9 +99,9 @@ module _ (answers : AnswerMap) (asking : Asking) (program : ScriptRuns) (entries
     names : n ≡ length (firsts (turns_of all.0))
     names = names_counted talk inner inner' all.0 n all.1 undrawn refl low
 
-    ends_are : ends ≡ map (ended program answers asking.terms (turns_of all.0)) entries
+    ends_are : ends ≡ map (ended program answers upstream.terms (turns_of all.0)) entries
     ends_are =
-        ends_by_map answers asking.terms (turns_of all.0) small (subst (λ (log : List Move). IsAnswered answers (turns_of log)) talk_log answered)
+        ends_by_map answers upstream.terms (turns_of all.0) small (subst (λ (log : List Move). IsAnswered answers (turns_of log)) talk_log answered)
         program entries ends all.2
 
     -- nobody waits any more, and what is said is the sum

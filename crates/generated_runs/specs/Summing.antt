@@ -7,7 +7,7 @@ use Rattle.pac_plan.specs.Plan.{Output, Plan, talk}
 use Rattle.pac_plan.specs.declared.status.Status.TheVariants as status
 use Rattle.poll_log.specs.Turns.{turns_of}
 use Rattle.poll_log.specs.Questions.{firsts}
-use Rattle.poll_loop.specs.declared.looping.Asking.{Asking}
+use Rattle.poll_loop.specs.declared.looping.Upstream.{Upstream}
 use Rattle.proxy_list.specs.declared.proxy.ProxyKind.{ProxyKind}
 use Rattle.proxy_list.specs.Proxies.{proxies_of}
 use Rattle.report_text.specs.Report.{End, UrlEnd, result_of}
@@ -48,11 +48,11 @@ abbrev pub said : Summary → Output
 said s = record { status = status.Good; text = summary_text s }
 
 -- what is polled for, answered from a map
-abbrev pub answered_talk : AnswerMap → Asking → ScriptRuns → List Entry → MemoryTalk
-answered_talk answers asking program entries = record { answers = answers; task = (urls_talk asking program entries).task }
+abbrev pub answered_talk : AnswerMap → Upstream → ScriptRuns → List Entry → MemoryTalk
+answered_talk answers upstream program entries = record { answers = answers; task = (urls_talk upstream program entries).task }
 
 -- polls for all URLs, and sums up by the log: the names that were sent in it, and how it ends with each URL against the map
-abbrev pub sum_plan : Seed → AnswerMap → Asking → ScriptRuns → List Entry → Plan MemoryTalk
-sum_plan from answers asking program entries =
-    talk (answered_talk answers asking program entries)
-    (λ log. said (summary from (length (firsts (turns_of log))) (map (ended program answers asking.terms (turns_of log)) entries)))
+abbrev pub sum_plan : Seed → AnswerMap → Upstream → ScriptRuns → List Entry → Plan MemoryTalk
+sum_plan from answers upstream program entries =
+    talk (answered_talk answers upstream program entries)
+    (λ log. said (summary from (length (firsts (turns_of log))) (map (ended program answers upstream.terms (turns_of log)) entries)))

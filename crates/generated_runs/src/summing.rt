@@ -2,7 +2,7 @@
 ghost use Rattle.std.specs.Prelude.{◌≡◌, ◌<◌, ◌≤◌, ◌^◌, IfOk, length, map};
 ghost use Rattle.std.specs.List.{sum_by};
 ghost use Rattle.js_interp.specs.Answers.{entry_of};
-ghost use Rattle.stub_poller.specs.Ready.{AreTerms};
+ghost use Rattle.poll_log.specs.Sendings.{AreTerms};
 ghost use Rattle.pac_plan.specs.Plan.{Outside};
 ghost use Rattle.pac_plan.specs.Follows.{Follows, IsUnlessMemory};
 ghost use Rattle.pac_plan.specs.OutputView.{made};
@@ -19,7 +19,7 @@ use js_scope::Program;
 use memory_talk::CountingDice;
 use pac_generate::{KnownAnswers, MapLink, Summary, kinds_of, summary_text};
 use pac_plan::{Output, Status};
-use poll_loop::Asking;
+use poll_loop::Upstream;
 use proxy_list::{ProxyKind, parse_list};
 use report_text::{End, UrlEnd};
 use std::alloc::Global;
@@ -35,11 +35,11 @@ pub struct Seed {
     pub sites: u32,
 }
 
-/// A network in memory: what it answers to each name, and how names are asked for.
+/// A network in memory: what it answers to each name, and whom to ask, and how often.
 #[derive(Clone, Copy)]
 pub struct Network<'a> {
     pub answers: &'a AnswerTable,
-    pub asking: Asking,
+    pub upstream: Upstream,
 }
 
 /// Runs a script for all generated URLs at once over a network in memory, and sums up when each URL has ended. The
@@ -53,11 +53,11 @@ pub fn sum_urls<K: KnownAnswers, L: Ledger>(
     network: Network<'_>,
     runs: &mut Steps<L>,
 ) -> Result<Output, Memory>
-    requires terms { AreTerms network.asking.terms }
+    requires terms { AreTerms network.upstream.terms }
     requires addresses { AreAddresses network.answers.now }
     requires few { length entries.items ≤ MOST_URLS }
     requires known { network.answers.now ≡ K.answers }
-    ensures { (o : Outside) → Follows answering (plan.sum_plan from network.entry.answers.now network.entry.asking (program_runs program.now) (map entry_of entries.items))
+    ensures { (o : Outside) → Follows answering (plan.sum_plan from network.entry.answers.now network.entry.upstream (program_runs program.now) (map entry_of entries.items))
         (record o { runs = runs.old }) (record o { runs = runs.new }) (made result) }
 {
     let mut link = MapLink::<K>::new(alloc, network.answers)?;
@@ -66,7 +66,7 @@ pub fn sum_urls<K: KnownAnswers, L: Ledger>(
         alloc,
         program,
         entries,
-        network.asking,
+        network.upstream,
         &mut link,
         &mut dice,
         runs,

@@ -5,7 +5,7 @@ use Rattle.js_host.specs.Answers.{AnswerMap}
 use Rattle.pac_ports.specs.Faults.{last_count}
 use Rattle.pac_ports.specs.Link.{LinkState, LinkTold, with_moves, with_open}
 use Rattle.pac_ports.specs.declared.link.Move.{Move}
-use Rattle.pac_ports.specs.declared.link.Server.{Server}
+use Rattle.pac_ports.specs.declared.link.Servers.{Servers}
 use Rattle.poll_log.specs.declared.question.Question.{Question}
 use Rattle.poll_log.specs.Turns.{turns_of}
 use Rattle.poll_log.specs.Questions.{drawn, firsts}
@@ -27,21 +27,21 @@ abbrev log_in : Option LinkTold → List Move
 log_in None = []
 log_in (Some told) = told.log
 
-linked_log : (server : Server) (log : List Move) → log_in (loop.linked server log (link_of new_map_link)).told ≡ log
-linked_log server [] = refl
-linked_log server (m ∷ log) = refl
+linked_log : (servers : Servers) (log : List Move) → log_in (loop.linked servers log (link_of new_map_link)).told ≡ log
+linked_log servers [] = refl
+linked_log servers (m ∷ log) = refl
 
 module _ (talk : Talk) (inner inner' : Outside) where
   told_log : (end : End) (log : List Move) → loop.Talked talk inner end log inner' → inner.link ≡ link_of new_map_link → log_in inner'.link.told ≡ log
   told_log whole log t new =
-      ap (λ (link : LinkState). log_in link.told) t.ends.link ∙ ap (λ (link : LinkState). log_in (loop.linked talk.server log link).told) new ∙ linked_log talk.server log
+      ap (λ (link : LinkState). log_in link.told) t.ends.link ∙ ap (λ (link : LinkState). log_in (loop.linked talk.servers log link).told) new ∙ linked_log talk.servers log
   told_log faulted log t new =
-      ap log_in t.ends.link.told ∙ ap (λ (link : LinkState). log_in (with_moves log (with_open talk.server link)).told) new
+      ap log_in t.ends.link.told ∙ ap (λ (link : LinkState). log_in (with_moves log (with_open talk.servers link)).told) new
   told_log unfinished log t new = go t.ends
     where
       go : loop.Ends talk inner unfinished log inner' → log_in inner'.link.told ≡ log
       go (inl ends) =
-          ap (λ (link : LinkState). log_in link.told) ends.link ∙ ap (λ (link : LinkState). log_in (loop.linked talk.server log link).told) new ∙ linked_log talk.server log
+          ap (λ (link : LinkState). log_in link.told) ends.link ∙ ap (λ (link : LinkState). log_in (loop.linked talk.servers log link).told) new ∙ linked_log talk.servers log
       go (inr ends) = ap (λ (o : Outside). log_in o.link.told) ends.same ∙ ap (λ (link : LinkState). log_in link.told) new ∙ sym ends.empty
 
 pub same_log : (talk : Talk) (inner inner' : Outside) (end : End) (log : List Move) (l : MapLinkState) → loop.Talked talk inner end log inner'
@@ -68,10 +68,12 @@ pub answered_whole : (talk : Talk) (answers : AnswerMap) (inner inner' o : Outsi
 answered_whole talk answers inner inner' o log l n t new now answered first last low same =
     record {
       polled = t.ends.polled;
-      answered = subst (λ (moves : List Move). IsAnswered answers (turns_of moves)) (same_log talk inner inner' whole log l t new now) answered;
-      numbered =
-          (dealt (drawn (turns_of log)) inner.dice inner'.dice n first last low t.ends.drew).1
-          ∙ ap first_numbers (names_counted talk inner inner' log n t first last low);
+      in_memory = record {
+        answered = subst (λ (moves : List Move). IsAnswered answers (turns_of moves)) (same_log talk inner inner' whole log l t new now) answered;
+        numbered =
+            (dealt (drawn (turns_of log)) inner.dice inner'.dice n first last low t.ends.drew).1
+            ∙ ap first_numbers (names_counted talk inner inner' log n t first last low);
+      };
       ran = ap (λ (runs : ℕ). let x : Outside = record o { runs = runs } in x) (ran_there talk inner inner' o log t.ends.ran same);
     }
 

@@ -6,7 +6,7 @@ use Rattle.std.proofs.lemmas.List.Elements.{recursion_from_All}
 use Rattle.pac_names.specs.declared.answer.Answer.{Answer}
 use Rattle.poll_log.specs.declared.question.Question.{Question}
 use Rattle.poll_log.specs.declared.terms.Terms.{Terms}
-use Rattle.poll_log.specs.Turns.{Turns, Begin, Then, Event}
+use Rattle.poll_log.specs.Turns.{Outgoing, Turns, Begin, Then, Event}
 use Rattle.poll_log.specs.Questions.{firsts, names_of, was_sent}
 use Rattle.poll_log.specs.Told.{Map, told}
 use Rattle.poll_log.specs.Jobs.{Job, SendsOwed, once, onto_new, runs_of, told_to, wanted}
@@ -82,7 +82,7 @@ LacksSent t h job = (n : List ℕ) → job (told t h) ≡ Some n → was_sent h 
 pub all_sent : (t : Terms) (jobs : List Job) (h : Turns) → SendsOwed t jobs h → AllByRecursion (LacksSent t h) jobs
 all_sent t jobs h o = recursion_from_All (LacksSent t h) jobs (λ k d low n e. want_sent t jobs h o k d n low e)
 
-module _ (most : ℕ) (t : Terms) (h : Turns) (e : Event) (sent : List (List ℕ)) where
+module _ (most : ℕ) (t : Terms) (h : Turns) (e : Event) (sent : List Outgoing) where
   abbrev seen : List (List ℕ)
   seen = names_of (firsts h)
 
@@ -122,7 +122,7 @@ module _ (most : ℕ) (t : Terms) (h : Turns) (e : Event) (sent : List (List ℕ
       let rest = total_more jobs laws.1 lacks.1 in
       omega (arith, one, rest)
 
-total_begin : (t : Terms) (sent : List (List ℕ)) (jobs : List Job) → total (λ job. unseen [] (job (told t (Begin sent)))) jobs + length jobs ≤ total (asked_for t (Begin sent)) jobs
+total_begin : (t : Terms) (sent : List Outgoing) (jobs : List Job) → total (λ job. unseen [] (job (told t (Begin sent)))) jobs + length jobs ≤ total (asked_for t (Begin sent)) jobs
 unfolding runs_of
 total_begin t sent [] = omega arith
 total_begin t sent (job ∷ jobs) =

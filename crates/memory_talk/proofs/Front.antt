@@ -6,39 +6,54 @@ use Rattle.std.proofs.lemmas.List.{append-nil, length-map, map-append}
 use Rattle.std.proofs.lemmas.List.Elements.{All-from_recursion, All-nil, recursion_from_All}
 use Rattle.js_host.specs.Answers.{AnswerMap}
 use Rattle.pac_ports.specs.declared.link.Move.{Move}
-use Rattle.pac_ports.specs.declared.link.Move.TheVariants as move
 use Rattle.poll_log.specs.declared.question.Question.{Question}
 use Rattle.poll_log.specs.declared.terms.Terms.{Terms}
-use Rattle.poll_log.specs.Turns.{Turns, Begin, Then, Event, turns_of}
-use Rattle.poll_log.specs.Questions.{IsQuestion, asked_in, drawn, firsts, names_of, new_among, octets_of, questions}
+use Rattle.poll_log.specs.Turns.{Outgoing, Turns, Begin, Then, Event, turns_of}
+use Rattle.poll_log.specs.Sendings.{server_of}
+use Rattle.poll_log.specs.Questions.{IsQuestion, asked_in, drawn, firsts, names_of, new_among, outgoing, outgoing_from, questions, times}
 use Rattle.poll_log.specs.Told.{Map}
 use Rattle.poll_log.specs.Jobs.{IsCut, IsOwed, Job, SendsOwed, once, some_wait, wanted}
-use Rattle.poll_log.proofs.Asking.{asked_in-octets}
+use Rattle.poll_log.proofs.Asking.{asked_in-outgoing}
 use Rattle.poll_log.proofs.Counts.{seen_filter}
 use Rattle.poll_log.proofs.Dues.{all_proper, firsts_next, firsts_of_begin, firsts_proper, fresh_new}
 use Rattle.poll_log.proofs.Names.{AllNew, AllSeen, cons_parts, new_among-new, true_false}
-use Rattle.poll_log.proofs.TurnLaws.{falls_due, firsts-begin, firsts-then, told_by_event}
+use Rattle.poll_log.proofs.Outgoing.{outgoing_from-append}
+use Rattle.poll_log.proofs.TurnLaws.{falls_at, firsts-begin, firsts-then, told_by_event}
+use Rattle.poll_loop.specs.Events.{move_of, sent_move}
 use Rattle.pac_generate.specs.Answered.{IsAnswered, due_reply, event_by}
 use Rattle.memory_talk.specs.Numbers.{first_numbers}
 use Rattle.memory_talk.specs.Laws.{CutIsFront, IsLogOf}
-use Rattle.memory_talk.proofs.Same.{AreNumbered, IsBefore, IsSoFar, came, compared, ids_of, move_of, moves_back, moves_of, numbered_front, repeats_fall, repeats_none, same_fresh, so_far, so_far_of, told_none, waited}
+use Rattle.memory_talk.proofs.Same.{AreNumbered, IsBefore, IsSoFar, came, compared, ids_of, moves_back, moves_of, numbered_front, repeats_fall, repeats_none, same_fresh, so_far, so_far_of, told_none, waited}
 
 -- ---- lists in parts
 
-record AreParted {A B : Type 0} (f : A → B) (front back : List B) (xs : List A) : Type 0 where
+record AreParted {A B : Type 0} (f : List A → List B) (front : List B) (xs : List A) : Type 0 where
   pub before : List A
   pub behind : List A
   pub parts : xs ≡ before ++ behind
-  pub front_is : front ≡ map f before
+  pub front_is : front ≡ f before
 
 -- what makes a list in two parts has two parts
-parted : {A B : Type 0} (f : A → B) (front back : List B) (xs : List A) → front ++ back ≡ map f xs → AreParted f front back xs
+parted : {A B : Type 0} (f : A → B) (front back : List B) (xs : List A) → front ++ back ≡ map f xs → AreParted (map f) front xs
 parted f [] back xs e = record { before = []; behind = xs; parts = refl; front_is = refl }
 parted f (y ∷ front) back [] e = cc
 parted f (y ∷ front) back (x ∷ xs) e =
     let c = cons_parts y (f x) (front ++ back) (map f xs) e in
     let p = parted f front back xs c.1 in
     record { before = x ∷ p.before; behind = p.behind; parts = ap (λ l. x ∷ l) p.parts; front_is = ap (λ z. z ∷ front) c.0 ∙ ap (λ l. f x ∷ l) p.front_is }
+
+-- so have the questions that are sent
+parted_out : (earlier : List Question) (front back : List Outgoing) (qs : List Question) → front ++ back ≡ outgoing_from earlier qs → AreParted (outgoing_from earlier) front qs
+unfolding outgoing_from
+parted_out earlier [] back qs e = record { before = []; behind = qs; parts = refl; front_is = refl }
+parted_out earlier (d ∷ front) back [] e =
+    let none : d ∷ (front ++ back) ≡ [] = e in
+    cc
+parted_out earlier (d ∷ front) back (q ∷ qs) e =
+    let one : Outgoing = outgoing (server_of (times earlier q.name)) q in
+    let c = cons_parts d one (front ++ back) (outgoing_from (earlier ++ q ∷ []) qs) e in
+    let p = parted_out (earlier ++ q ∷ []) front back qs c.1 in
+    record { before = q ∷ p.before; behind = p.behind; parts = ap (λ l. q ∷ l) p.parts; front_is = ap (λ z. z ∷ front) c.0 ∙ ap (λ l. one ∷ l) p.front_is }
 
 record Overlap {A : Type 0} (xs ys zs ws : List A) : Type 0 where
   pub middle : List A
@@ -72,18 +87,19 @@ front_seen seen (x ∷ xs) ys h = (h.0, front_seen seen xs ys h.1)
 abbrev Begins : {A : Type 0} → List A → List A → Type 0
 Begins {A} front whole = (rest : List A) × (whole ≡ front ++ rest)
 
--- What is sent in a turn: as far as that is cut short, where in earlier turns these were sent first, and in the whole log.
-module _ (before fresh again fresh' again' : List Question) (sent unsent other : List (List ℕ)) (new : AllNew before fresh) (seen : AllSeen (before ++ fresh) again)
-    (proper : AllByRecursion IsQuestion (fresh ++ again)) (octets : sent ++ unsent ≡ map octets_of (fresh ++ again)) (octets' : other ≡ map octets_of (fresh' ++ again'))
+-- What is sent in a turn: as far as that is cut short, where in earlier turns these were sent, and these first, and in the
+-- whole log.
+module _ (earlier before fresh again fresh' again' : List Question) (sent unsent other : List Outgoing) (new : AllNew before fresh) (seen : AllSeen (before ++ fresh) again)
+    (proper : AllByRecursion IsQuestion (fresh ++ again)) (out : sent ++ unsent ≡ outgoing_from earlier (fresh ++ again)) (out' : other ≡ outgoing_from earlier (fresh' ++ again'))
     (names : names_of fresh ≡ names_of fresh') (repeats : fresh ≡ fresh' → again ≡ again')
     (one : AreNumbered (ids_of (before ++ new_among before (asked_in sent)))) (two : AreNumbered (ids_of (before ++ fresh'))) where
-  p : AreParted octets_of sent unsent (fresh ++ again)
-  p = parted octets_of sent unsent (fresh ++ again) octets
+  p : AreParted (outgoing_from earlier) sent (fresh ++ again)
+  p = parted_out earlier sent unsent (fresh ++ again) out
 
   asked : asked_in sent ≡ p.before
   asked =
       ap asked_in p.front_is
-      ∙ asked_in-octets p.before (All-from_recursion IsQuestion p.before (front_each IsQuestion p.before p.behind (subst (AllByRecursion IsQuestion) p.parts proper)))
+      ∙ asked_in-outgoing earlier p.before (All-from_recursion IsQuestion p.before (front_each IsQuestion p.before p.behind (subst (AllByRecursion IsQuestion) p.parts proper)))
 
   numbered : (qs : List Question) → new_among before p.before ≡ qs → AreNumbered (ids_of before ++ ids_of qs)
   numbered qs e =
@@ -106,8 +122,9 @@ module _ (before fresh again fresh' again' : List Question) (sent unsent other :
       (numbered_front (ids_of before ++ ids_of more.before) (ids_of more.behind) (subst AreNumbered ids all_numbered)) in
       let whole : fresh' ++ again' ≡ p.before ++ (more.behind ++ again') =
       ap (λ (l : List Question). l ++ again') (more.parts ∙ ap (λ (l : List Question). l ++ more.behind) (sym same)) ∙ append_assoc p.before more.behind again' in (
-        map octets_of (more.behind ++ again'),
-        octets' ∙ ap (map octets_of) whole ∙ map-append octets_of p.before (more.behind ++ again') ∙ ap (λ (l : List (List ℕ)). l ++ map octets_of (more.behind ++ again')) (sym p.front_is),
+        outgoing_from (earlier ++ p.before) (more.behind ++ again'),
+        out' ∙ ap (outgoing_from earlier) whole ∙ outgoing_from-append earlier p.before (more.behind ++ again')
+            ∙ ap (λ (l : List Outgoing). l ++ outgoing_from (earlier ++ p.before) (more.behind ++ again')) (sym p.front_is),
       )
 
   -- all new names were sent
@@ -116,7 +133,7 @@ module _ (before fresh again fresh' again' : List Question) (sent unsent other :
       let first : new_among before p.before ≡ fresh = ap (new_among before) o.longer ∙ new_among-new before fresh o.middle new (front_seen (before ++ fresh) o.middle p.behind (subst (AllSeen (before ++ fresh)) o.later seen)) in
       let same : fresh ≡ fresh' = same_fresh (ids_of before) fresh fresh' names (numbered fresh first) all_numbered in (
         unsent,
-        octets' ∙ ap (λ (l : List Question). map octets_of (l ++ again')) (sym same) ∙ ap (λ (l : List Question). map octets_of (fresh ++ l)) (sym (repeats same)) ∙ sym octets,
+        out' ∙ ap (λ (l : List Question). outgoing_from earlier (l ++ again')) (sym same) ∙ ap (λ (l : List Question). outgoing_from earlier (fresh ++ l)) (sym (repeats same)) ∙ sym out,
       )
 
   turn : Begins sent other
@@ -126,27 +143,27 @@ module _ (before fresh again fresh' again' : List Question) (sent unsent other :
   ]
 
 module _ (t : Terms) (jobs : List Job) (w : 0 < t.wait) (r : 0 < t.tries) where
-  turn_begin : (sent unsent other : List (List ℕ)) → IsOwed t jobs [] [] (Begin (sent ++ unsent)) (sent ++ unsent) → IsOwed t jobs [] [] (Begin other) other
+  turn_begin : (sent unsent other : List Outgoing) → IsOwed t jobs [] [] (Begin (sent ++ unsent)) (sent ++ unsent) → IsOwed t jobs [] [] (Begin other) other
       → AreNumbered (drawn (Begin sent)) → AreNumbered (drawn (Begin other)) → Begins sent other
   turn_begin sent unsent other o p one two =
-      turn [] o.fresh o.again p.fresh p.again sent unsent other (fresh_new t jobs [] [] (Begin (sent ++ unsent)) (sent ++ unsent) o (All-nil IsQuestion))
+      turn [] [] o.fresh o.again p.fresh p.again sent unsent other (fresh_new t jobs [] [] (Begin (sent ++ unsent)) (sent ++ unsent) o (All-nil IsQuestion))
       (subst (AllSeen o.fresh) (sym o.repeats) (seen_filter _ [] o.fresh))
       (recursion_from_All IsQuestion (o.fresh ++ o.again) (all_proper t jobs [] [] (Begin (sent ++ unsent)) (sent ++ unsent) o (All-nil IsQuestion)))
-      o.octets p.octets (o.asks ∙ ap (λ (M : Map). once [] (wanted jobs M)) (told_none t (sent ++ unsent) other) ∙ sym p.asks)
+      o.out p.out (o.asks ∙ ap (λ (M : Map). once [] (wanted jobs M)) (told_none t (sent ++ unsent) other) ∙ sym p.asks)
       (λ same. repeats_none t jobs w r (sent ++ unsent) o ∙ ap (filter (λ q. false)) same ∙ sym (repeats_none t jobs w r other p))
       (subst (λ (l : List Question). AreNumbered (ids_of l)) (firsts-begin sent) one)
       (subst (λ (l : List Question). AreNumbered (ids_of l)) (firsts_of_begin t jobs other p) two)
 
-  turn_then : (h : Turns) (e : Event) (sent unsent other : List (List ℕ)) → SendsOwed t jobs h
+  turn_then : (h : Turns) (e : Event) (sent unsent other : List Outgoing) → SendsOwed t jobs h
       → IsOwed t jobs (questions h) (firsts h) (Then h e (sent ++ unsent)) (sent ++ unsent) → IsOwed t jobs (questions h) (firsts h) (Then h e other) other
       → AreNumbered (drawn (Then h e sent)) → AreNumbered (drawn (Then h e other)) → Begins sent other
   turn_then h e sent unsent other s o p one two =
       let proper = firsts_proper t jobs h s in
-      turn (firsts h) o.fresh o.again p.fresh p.again sent unsent other (fresh_new t jobs (questions h) (firsts h) (Then h e (sent ++ unsent)) (sent ++ unsent) o proper)
+      turn (questions h) (firsts h) o.fresh o.again p.fresh p.again sent unsent other (fresh_new t jobs (questions h) (firsts h) (Then h e (sent ++ unsent)) (sent ++ unsent) o proper)
       (subst (AllSeen (firsts h ++ o.fresh)) (sym o.repeats) (seen_filter _ [] (firsts h ++ o.fresh)))
       (recursion_from_All IsQuestion (o.fresh ++ o.again) (all_proper t jobs (questions h) (firsts h) (Then h e (sent ++ unsent)) (sent ++ unsent) o proper))
-      o.octets p.octets (o.asks ∙ ap (λ (M : Map). once (names_of (firsts h)) (wanted jobs M)) (told_by_event t h e (sent ++ unsent) other) ∙ sym p.asks)
-      (λ same. repeats_fall t jobs w r h e (sent ++ unsent) s o ∙ ap (λ (qs : List Question). filter (λ q. falls_due t h e q.name) (firsts h ++ qs)) same ∙ sym (repeats_fall t jobs w r h e other s p))
+      o.out p.out (o.asks ∙ ap (λ (M : Map). once (names_of (firsts h)) (wanted jobs M)) (told_by_event t h e (sent ++ unsent) other) ∙ sym p.asks)
+      (λ same. repeats_fall t jobs w r h e (sent ++ unsent) s o ∙ ap (λ (qs : List Question). filter (λ q. falls_at t h e q.name) (firsts h ++ qs)) same ∙ sym (repeats_fall t jobs w r h e other s p))
       (subst (λ (l : List Question). AreNumbered (ids_of l)) (firsts-then h e sent) one)
       (subst (λ (l : List Question). AreNumbered (ids_of l)) (firsts_next t jobs h e other s p) two)
 
@@ -155,22 +172,22 @@ module _ (t : Terms) (jobs : List Job) (w : 0 < t.wait) (r : 0 < t.tries) where
 longer : (front moves more : List Move) → Begins front moves → Begins front (moves ++ more)
 longer front moves more b = (b.0 ++ more, ap (λ (l : List Move). l ++ more) b.1 ∙ append_assoc front b.0 more)
 
-sent_begins : (sent other : List (List ℕ)) → Begins sent other → Begins (map move.Sent sent) (map move.Sent other)
-sent_begins sent other b = (map move.Sent b.0, ap (map move.Sent) b.1 ∙ map-append move.Sent sent b.0)
+sent_begins : (sent other : List Outgoing) → Begins sent other → Begins (map sent_move sent) (map sent_move other)
+sent_begins sent other b = (map sent_move b.0, ap (map sent_move) b.1 ∙ map-append sent_move sent b.0)
 
 module _ (answers : AnswerMap) (t : Terms) (jobs : List Job) (w : 0 < t.wait) (r : 0 < t.tries) where
-  from_begin : (sent unsent : List (List ℕ)) → IsOwed t jobs [] [] (Begin (sent ++ unsent)) (sent ++ unsent) → AreNumbered (drawn (Begin sent)) → (whole : Turns) → IsSoFar answers t jobs whole
+  from_begin : (sent unsent : List Outgoing) → IsOwed t jobs [] [] (Begin (sent ++ unsent)) (sent ++ unsent) → AreNumbered (drawn (Begin sent)) → (whole : Turns) → IsSoFar answers t jobs whole
       → Begins (moves_of (Begin sent)) (moves_of whole)
   from_begin sent unsent o one (Begin other) log = sent_begins sent other (turn_begin t jobs w r sent unsent other o log.sends one log.numbered)
   from_begin sent unsent o one (Then h e other) log =
-      longer (moves_of (Begin sent)) (moves_of h) (move_of e ∷ map move.Sent other) (from_begin sent unsent o one h (so_far answers t jobs w r h e other log))
+      longer (moves_of (Begin sent)) (moves_of h) (move_of e ∷ map sent_move other) (from_begin sent unsent o one h (so_far answers t jobs w r h e other log))
 
-  module _ (h : Turns) (e : Event) (sent unsent : List (List ℕ)) (s : SendsOwed t jobs h) (o : IsOwed t jobs (questions h) (firsts h) (Then h e (sent ++ unsent)) (sent ++ unsent))
+  module _ (h : Turns) (e : Event) (sent unsent : List Outgoing) (s : SendsOwed t jobs h) (o : IsOwed t jobs (questions h) (firsts h) (Then h e (sent ++ unsent)) (sent ++ unsent))
       (due : e ≡ event_by (due_reply answers h)) (one : AreNumbered (drawn (Then h e sent))) where
-    same_turn : (other : List (List ℕ)) → IsSoFar answers t jobs (Then h e other) → Begins (moves_of (Then h e sent)) (moves_of (Then h e other))
+    same_turn : (other : List Outgoing) → IsSoFar answers t jobs (Then h e other) → Begins (moves_of (Then h e sent)) (moves_of (Then h e other))
     same_turn other log =
         let b = sent_begins sent other (turn_then t jobs w r h e sent unsent other s o log.sends.1 one log.numbered) in
-        (b.0, ap (λ (l : List Move). moves_of h ++ move_of e ∷ l) b.1 ∙ sym (append_assoc (moves_of h) (move_of e ∷ map move.Sent sent) b.0))
+        (b.0, ap (λ (l : List Move). moves_of h ++ move_of e ∷ l) b.1 ∙ sym (append_assoc (moves_of h) (move_of e ∷ map sent_move sent) b.0))
 
     from_then : (whole : Turns) → IsSoFar answers t jobs whole → IsBefore h whole → Begins (moves_of (Then h e sent)) (moves_of whole)
     from_then (Begin other) log b = absurd b
@@ -181,7 +198,7 @@ module _ (answers : AnswerMap) (t : Terms) (jobs : List Job) (w : 0 < t.wait) (r
         (subst (λ (x : Event). Begins (moves_of (Then h e sent)) (moves_of (Then h x other))) (sym event)
         (same_turn other (subst (λ (x : Event). IsSoFar answers t jobs (Then h x other)) event here)))
     from_then (Then h' e' other) log (inr b) =
-        longer (moves_of (Then h e sent)) (moves_of h') (move_of e' ∷ map move.Sent other) (from_then h' (so_far answers t jobs w r h' e' other log) b)
+        longer (moves_of (Then h e sent)) (moves_of h') (move_of e' ∷ map sent_move other) (from_then h' (so_far answers t jobs w r h' e' other log) b)
 
   front : (cut whole : Turns) → IsCut t jobs cut → IsAnswered answers cut → AreNumbered (drawn cut) → IsLogOf answers t jobs whole → Begins (moves_of cut) (moves_of whole)
   unfolding IsAnswered
@@ -207,6 +224,6 @@ module _ (answers : AnswerMap) (t : Terms) (jobs : List Job) (w : 0 < t.wait) (r
 pub cut_is_front : CutIsFront
 cut_is_front answers t jobs cut whole w r c log =
     let h : Turns = turns_of cut in
-    let numbered : AreNumbered (drawn h) = c.numbered ∙ ap first_numbers (sym (length-map (firsts h) (λ (q : Question). q.id))) in
-    let b = front answers t jobs w r h (turns_of whole) c.cut c.answered numbered log in
+    let numbered : AreNumbered (drawn h) = c.in_memory.numbered ∙ ap first_numbers (sym (length-map (firsts h) (λ (q : Question). q.id))) in
+    let b = front answers t jobs w r h (turns_of whole) c.cut c.in_memory.answered numbered log in
     (b.0, sym (moves_back (Begin []) whole) ∙ b.1 ∙ ap (λ (l : List Move). l ++ b.0) (moves_back (Begin []) cut))

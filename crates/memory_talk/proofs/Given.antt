@@ -1,56 +1,26 @@
 -- Each datagram that is given replies to a question that was sent.
-use Rattle.std.proofs.Common.{◌≡◌, ℕ, zero, suc, ◌+◌, ◌*◌, ◌/◌, ◌%◌, ◌^◌, ◌<◌, Bool, true, false, cond, ◌&&◌, List, [], ◌∷◌, ◌++◌, map, take, Option, Some, None, refl, sym, subst, arith}
-use Rattle.std.specs.Prelude.{nat_eq, slice_get}
+use Rattle.std.proofs.Common.{◌≡◌, ℕ, zero, suc, List, [], ◌∷◌, ◌++◌, map, take, Option, Some, None, refl}
+use Rattle.std.specs.Prelude.{slice_get}
 use Rattle.std.specs.List.{AllByRecursion, cons_option}
-use Rattle.std.specs.Cmp.Lexicographic.{pointwise}
-use Rattle.pac_names.specs.Names.{is_lookup_name}
 use Rattle.js_host.specs.Answers.{AnswerMap}
-use Rattle.dns_name.proofs.SameLaws.{bytes_same}
-use Rattle.dns_message.specs.Numbers.{number_at}
-use Rattle.dns_message.specs.Question.{question_octets}
 use Rattle.poll_log.specs.declared.question.Question.{Question}
-use Rattle.poll_log.specs.Turns.{Turns, Begin, Then, Given, Tick}
-use Rattle.poll_log.specs.Questions.{IsQuestion, asked_by, asked_in, checked_question, octets_of, question_in, questions}
+use Rattle.poll_log.specs.Turns.{Outgoing, Turns, Begin, Then, Given, Tick}
+use Rattle.poll_log.specs.Questions.{IsQuestion, asked_by, asked_in, questions}
 use Rattle.poll_log.proofs.Asking.{asked_name_is}
 use Rattle.poll_log.proofs.Names.{none_some}
 use Rattle.pac_generate.specs.Answered.{due_reply, event_by, given, replies, reply_from}
+use Rattle.pac_generate.proofs.Asked.{asked_number}
 use Rattle.pac_generate.specs.declared.limits.TheConstants.{MOST_QUESTIONS}
 
 -- ---- what is read as a question is one
 
-byte_below : (x : ℕ) → x % 256 < 256
-byte_below x = omega arith
-
-two_bytes : (high low : ℕ) → high < 256 → low < 256 → high * 256 ^ 1 + (low * 256 ^ 0 + 0) < 2 ^ 16
-two_bytes high low h l = omega (arith, h, l)
-
-number_fits : (id : ℕ) (name : List ℕ) → number_at (question_octets id name) 0 < 2 ^ 16
-unfolding question_octets
-number_fits id name = two_bytes (id / 256 ^ 1 % 256) (id % 256) (byte_below (id / 256 ^ 1)) (byte_below id)
-
-checked_number : (octets : List ℕ) (q : Question) → checked_question octets (question_in octets) ≡ Some q → q.id < 2 ^ 16
-checked_number octets q e = go (is_lookup_name (question_in octets).name) (pointwise nat_eq octets (octets_of (question_in octets))) refl e
-  where
-    go : (b c : Bool) → pointwise nat_eq octets (octets_of (question_in octets)) ≡ c → cond (b && c) (Some (question_in octets)) None ≡ Some q → q.id < 2 ^ 16
-    go true true same f =
-        let read : question_in octets ≡ q = cc in
-        let spelled : octets ≡ octets_of (question_in octets) = bytes_same octets (octets_of (question_in octets)) same in
-        let small : number_at octets 0 < 2 ^ 16 = subst (λ (o : List ℕ). number_at o 0 < 2 ^ 16) (sym spelled) (number_fits (question_in octets).id (question_in octets).name) in
-        subst (λ (x : Question). x.id < 2 ^ 16) read small
-    go true false same f = none_some q f
-    go false c same f = none_some q f
-
-asked_number_is : (octets : List ℕ) (q : Question) → asked_by octets ≡ Some q → q.id < 2 ^ 16
-unfolding asked_by
-asked_number_is octets q e = checked_number octets q e
-
-asked_proper : (sent : List (List ℕ)) → AllByRecursion IsQuestion (asked_in sent)
+asked_proper : (sent : List Outgoing) → AllByRecursion IsQuestion (asked_in sent)
 asked_proper [] = tt
-asked_proper (octets ∷ sent) = go (asked_by octets) refl (asked_proper sent)
+asked_proper (d ∷ sent) = go (asked_by d.octets) refl (asked_proper sent)
   where
-    go : (r : Option Question) → asked_by octets ≡ r → AllByRecursion IsQuestion (asked_in sent) → AllByRecursion IsQuestion (cons_option r (asked_in sent))
+    go : (r : Option Question) → asked_by d.octets ≡ r → AllByRecursion IsQuestion (asked_in sent) → AllByRecursion IsQuestion (cons_option r (asked_in sent))
     go None e rest = rest
-    go (Some q) e rest = (record { number = asked_number_is octets q e; name = asked_name_is octets q e }, rest)
+    go (Some q) e rest = (record { number = asked_number d.octets q e; name = asked_name_is d.octets q e }, rest)
 
 both_proper : (xs ys : List Question) → AllByRecursion IsQuestion xs → AllByRecursion IsQuestion ys → AllByRecursion IsQuestion (xs ++ ys)
 both_proper [] ys h k = k

@@ -9,7 +9,7 @@ use Rattle.js_host.specs.Answers.{AnswerMap, answer_in}
 use Rattle.poll_log.specs.declared.question.Question.{Question}
 use Rattle.poll_log.specs.declared.terms.TheConstants.{FLOOD}
 use Rattle.poll_log.specs.declared.terms.Terms.{Terms}
-use Rattle.poll_log.specs.Turns.{Turns, Begin, Then, Event, Given}
+use Rattle.poll_log.specs.Turns.{Outgoing, Turns, Begin, Then, Event, Given}
 use Rattle.poll_log.specs.Beats.{one_more, stretches, ticks}
 use Rattle.poll_log.specs.Questions.{IsQuestion, asked_in, firsts, has_name, questions, same_name, was_sent}
 use Rattle.poll_log.specs.Told.{accepted, is_dead, or_else, told}
@@ -19,7 +19,7 @@ use Rattle.poll_log.proofs.Bounds.{alive_if_young}
 use Rattle.poll_log.proofs.Counts.{seen_here}
 use Rattle.poll_log.proofs.Dues.{asked_now, firsts_next, firsts_of_begin, firsts_proper, fresh_new}
 use Rattle.poll_log.proofs.Names.{AllNew, has_name-append, true_false}
-use Rattle.poll_log.proofs.TurnLaws.{accepted_unsent, distinct, falls_due, questions-begin, questions-then, told-begin, told_next, told_stays, told_unsent}
+use Rattle.poll_log.proofs.TurnLaws.{accepted_unsent, distinct, falls_at, questions-begin, questions-then, told-begin, told_next, told_stays, told_unsent}
 use Rattle.pac_generate.specs.Answered.{IsAnswered, due_reply, event_by, given, replies, reply_from}
 use Rattle.pac_generate.specs.declared.limits.TheConstants.{MOST_QUESTIONS}
 use Rattle.memory_talk.specs.Laws.{AreAddresses, AreReplied, AskFew, QuestionsAreReplied, events_of, reply_event}
@@ -34,7 +34,7 @@ use Rattle.memory_talk.proofs.Taking.{takes_no_other, takes_own}
 -- ---- the start
 
 module _ (answers : AnswerMap) (t : Terms) (jobs : List Job) (w : 0 < t.wait) (r : 0 < t.tries) where
-  prompt_begin : (sent : List (List ℕ)) → IsOwed t jobs [] [] (Begin sent) sent → IsPrompt answers t (Begin sent)
+  prompt_begin : (sent : List Outgoing) → IsOwed t jobs [] [] (Begin sent) sent → IsPrompt answers t (Begin sent)
   unfolding events_of given stretches ticks
   prompt_begin sent o =
       let none : o.again ≡ [] = repeats_none t jobs w r sent o ∙ none_kept (λ q. false) (λ q. refl) o.fresh in
@@ -80,7 +80,7 @@ module _ (answers : AnswerMap) (small : AreAddresses answers) (t : Terms) (jobs 
       ∙ ap (λ (qs : List Question). slice_get (take MOST_QUESTIONS (map (reply_from answers) qs)) (length p.done)) asked
       ∙ at_due (reply_from answers) MOST_QUESTIONS p.done rest q few
 
-  module _ (sent : List (List ℕ)) where
+  module _ (sent : List Outgoing) where
     still_untold : (n : List ℕ) → told t h n ≡ None → accepted t h reply n ≡ None → told t (Then h reply sent) n ≡ None
     still_untold n untold none = told_next t h reply sent n ∙ ap (λ (a : Option _). or_else a (accepted t h reply n)) untold ∙ none
 
@@ -110,7 +110,7 @@ module _ (answers : AnswerMap) (small : AreAddresses answers) (t : Terms) (jobs 
     prompt_then now =
         let proper = firsts_proper t jobs h o in
         let again : now.again ≡ [] =
-        repeats_fall t jobs w r h reply sent o now ∙ none_kept (λ x. falls_due t h reply x.name) (λ x. none_falls answers t h p (reply_from answers q) low x.name) (firsts h ++ now.fresh) in
+        repeats_fall t jobs w r h reply sent o now ∙ none_kept (λ x. falls_at t h reply x.name) (λ x. none_falls answers t h p (reply_from answers q) low x.name) (firsts h ++ now.fresh) in
         let asks : asked_in sent ≡ now.fresh =
         asked_now t jobs (questions h) (firsts h) (Then h reply sent) sent now proper ∙ ap (λ (qs : List Question). now.fresh ++ qs) again ∙ append-nil now.fresh in
         let joined : (p.done ++ q ∷ rest) ++ now.fresh ≡ (p.done ++ q ∷ []) ++ (rest ++ now.fresh) =

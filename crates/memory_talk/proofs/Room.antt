@@ -1,20 +1,19 @@
 -- The link has room for all moves of a log where names are few.
-use Rattle.std.proofs.Common.{◌≡◌, ℕ, ◌+◌, true, List, [], ◌∷◌, ◌++◌, length, refl, sym, ◌∙◌, ap, arith}
+use Rattle.std.proofs.Common.{◌≡◌, ℕ, suc, ◌+◌, true, List, [], ◌∷◌, ◌++◌, length, refl, sym, ◌∙◌, ap, arith}
 use Rattle.std.specs.List.{list_any}
 use Rattle.std.proofs.lemmas.List.{append-nil, length-append, length-map, length_push}
 use Rattle.std.proofs.lemmas.List.Elements.{All-nil}
-use Rattle.js_host.specs.Answers.{AnswerMap}
 use Rattle.pac_ports.specs.declared.link.Move.{Move}
 use Rattle.pac_ports.specs.declared.link.Move.TheVariants as move
 use Rattle.poll_log.specs.declared.question.Question.{Question}
 use Rattle.poll_log.specs.declared.terms.Terms.{Terms}
-use Rattle.poll_log.specs.Turns.{Turns, Begin, Then, Given, Tick, sends, turns_of, with_move, with_moves, with_sent}
-use Rattle.poll_log.specs.Questions.{IsQuestion, asked_in, firsts, octets_of, questions}
+use Rattle.poll_log.specs.Turns.{Outgoing, Turns, Begin, Then, Given, Tick, sends, turns_of, with_move, with_moves, with_sent}
+use Rattle.poll_log.specs.Questions.{IsQuestion, asked_in, firsts, outgoing_from, questions}
 use Rattle.poll_log.specs.Told.{Map, is_dead, told}
 use Rattle.poll_log.specs.Jobs.{IsOwed, Job, SendsOwed, WaitsBefore, waits_unless}
 use Rattle.poll_log.proofs.Dues.{asked_now, firsts_proper}
 use Rattle.poll_log.proofs.TurnLaws.{questions-begin, questions-then}
-use Rattle.pac_generate.specs.Answered.{IsAnswered}
+use Rattle.pac_generate.proofs.LogLaws.{answered_sent}
 use Rattle.memory_talk.specs.Laws.{LinkHasRoom, SoundJobsAskFew, events_of, reply_event}
 use Rattle.memory_talk.proofs.Few.{all_sent, few_names}
 use Rattle.memory_talk.proofs.Prompt.{awaited, next_due}
@@ -36,11 +35,15 @@ size h = length (sends h) + length (events_of h)
 
 size_more : (h : Turns) (m : Move) → size (with_move h m) ≡ size h + 1
 unfolding sends events_of
-size_more (Begin sent) (move.Sent octets) = let long = length_push sent octets in omega (arith, long)
-size_more (Then before event sent) (move.Sent octets) =
-    let long = length_push sent octets in
+size_more (Begin sent) (move.Sent to octets) =
+    let d : Outgoing = record { to = to; octets = octets } in
+    let long = length_push sent d in
+    omega (arith, long)
+size_more (Then before event sent) (move.Sent to octets) =
+    let d : Outgoing = record { to = to; octets = octets } in
+    let long = length_push sent d in
     let old = length-append (sends before) sent in
-    let new = length-append (sends before) (sent ++ octets ∷ []) in
+    let new = length-append (sends before) (sent ++ d ∷ []) in
     omega (arith, long, old, new)
 size_more h (move.Given octets) =
     let same : length (sends h ++ []) ≡ length (sends h) = ap length (append-nil (sends h)) in
@@ -63,10 +66,16 @@ size_of : (log : List Move) → size (turns_of log) ≡ length log
 unfolding sends events_of
 size_of log = let all = sizes (Begin []) log in omega (arith, all)
 
+-- so many questions are so many datagrams
+length_out : (earlier qs : List Question) → length (outgoing_from earlier qs) ≡ length qs
+unfolding outgoing_from
+length_out earlier [] = refl
+length_out earlier (q ∷ qs) = ap suc (length_out (earlier ++ q ∷ []) qs)
+
 -- each send of a log with the sends that are owed is a question
 module _ (t : Terms) (jobs : List Job) where
-  turn_asks : (earlier before : List Question) (turns : Turns) (sent : List (List ℕ)) → (o : IsOwed t jobs earlier before turns sent) → asked_in sent ≡ o.fresh ++ o.again → length sent ≡ length (asked_in sent)
-  turn_asks earlier before turns sent o asked = ap length o.octets ∙ length-map (o.fresh ++ o.again) octets_of ∙ ap length (sym asked)
+  turn_asks : (earlier before : List Question) (turns : Turns) (sent : List Outgoing) → (o : IsOwed t jobs earlier before turns sent) → asked_in sent ≡ o.fresh ++ o.again → length sent ≡ length (asked_in sent)
+  turn_asks earlier before turns sent o asked = ap length o.out ∙ length_out earlier (o.fresh ++ o.again) ∙ ap length (sym asked)
 
   sends_ask : (h : Turns) → SendsOwed t jobs h → length (sends h) ≡ length (questions h)
   unfolding sends
@@ -80,21 +89,16 @@ module _ (t : Terms) (jobs : List Job) where
 
 -- ---- more sends in the last turn
 
-told_sent : (t : Terms) (h : Turns) (more : List (List ℕ)) → told t (with_sent h more) ≡ told t h
+told_sent : (t : Terms) (h : Turns) (more : List Outgoing) → told t (with_sent h more) ≡ told t h
 unfolding told
 told_sent t (Begin sent) more = refl
 told_sent t (Then h e sent) more = refl
 
-answered_sent : (answers : AnswerMap) (h : Turns) (more : List (List ℕ)) → IsAnswered answers h → IsAnswered answers (with_sent h more)
-unfolding IsAnswered
-answered_sent answers (Begin sent) more a = tt
-answered_sent answers (Then h e sent) more a = a
-
-waits_sent : (t : Terms) (jobs : List Job) (h : Turns) (more : List (List ℕ)) → WaitsBefore t jobs h → WaitsBefore t jobs (with_sent h more)
+waits_sent : (t : Terms) (jobs : List Job) (h : Turns) (more : List Outgoing) → WaitsBefore t jobs h → WaitsBefore t jobs (with_sent h more)
 waits_sent t jobs (Begin sent) more w = w
 waits_sent t jobs (Then h e sent) more w = w
 
-size_sent : (h : Turns) (more : List (List ℕ)) → size (with_sent h more) ≡ size h + length more
+size_sent : (h : Turns) (more : List Outgoing) → size (with_sent h more) ≡ size h + length more
 unfolding sends events_of
 size_sent (Begin sent) more = let all = length-append sent more in omega (arith, all)
 size_sent (Then h e sent) more =

@@ -8,13 +8,14 @@ use Rattle.pac_ports.specs.declared.link.Move.{Move}
 use Rattle.pac_ports.specs.declared.link.Move.TheVariants as move
 use Rattle.poll_log.specs.declared.question.Question.{Question}
 use Rattle.poll_log.specs.declared.terms.Terms.{Terms}
-use Rattle.poll_log.specs.Turns.{Turns, Begin, Then, Event, Given, Tick, turns_of, with_move, with_moves}
-use Rattle.poll_log.specs.Questions.{drawn, firsts, has_name, names_of, octets_of, questions}
+use Rattle.poll_log.specs.Turns.{Outgoing, Turns, Begin, Then, Event, turns_of, with_move, with_moves}
+use Rattle.poll_log.specs.Questions.{drawn, firsts, has_name, names_of, outgoing_from, questions}
 use Rattle.poll_log.specs.Told.{Map, due_sends, told}
 use Rattle.poll_log.specs.Jobs.{IsOwed, Job, SendsOwed, WaitsBefore, once, some_wait, wanted}
 use Rattle.poll_log.proofs.Dues.{again_are, firsts_next, firsts_of_begin, firsts_proper, fresh_new, sent_as_due}
 use Rattle.poll_log.proofs.Names.{cons_parts, true_false}
-use Rattle.poll_log.proofs.TurnLaws.{due_begin, due_next, due_unsent, falls_due, told_by_event}
+use Rattle.poll_log.proofs.TurnLaws.{due_begin, due_next, due_unsent, falls_at, told_by_event}
+use Rattle.poll_loop.specs.Events.{move_of, sent_move}
 use Rattle.pac_generate.specs.Answered.{IsAnswered, due_reply, event_by}
 use Rattle.memory_talk.specs.Numbers.{first_numbers, number_after}
 use Rattle.memory_talk.specs.Laws.{IsLogOf, OneLog}
@@ -76,33 +77,34 @@ same_fresh before xs ys e one other =
 
 -- ---- one turn
 
-pub told_none : (t : Terms) (one other : List (List ℕ)) → told t (Begin one) ≡ told t (Begin other)
+pub told_none : (t : Terms) (one other : List Outgoing) → told t (Begin one) ≡ told t (Begin other)
 unfolding told
 told_none t one other = refl
 
 module _ (t : Terms) (jobs : List Job) (w : 0 < t.wait) (r : 0 < t.tries) where
   -- what is sent again after an event
-  pub repeats_fall : (h : Turns) (e : Event) (sent : List (List ℕ)) → SendsOwed t jobs h → (o : IsOwed t jobs (questions h) (firsts h) (Then h e sent) sent)
-      → o.again ≡ filter (λ q. falls_due t h e q.name) (firsts h ++ o.fresh)
+  pub repeats_fall : (h : Turns) (e : Event) (sent : List Outgoing) → SendsOwed t jobs h → (o : IsOwed t jobs (questions h) (firsts h) (Then h e sent) sent)
+      → o.again ≡ filter (λ q. falls_at t h e q.name) (firsts h ++ o.fresh)
   repeats_fall h e sent s o =
       o.repeats
-      ∙ again_are t (questions h) (firsts h) o.fresh (Then h e sent) (fresh_new t jobs (questions h) (firsts h) (Then h e sent) sent o (firsts_proper t jobs h s)) (due_sends t h) (falls_due t h e)
+      ∙ again_are t (questions h) (firsts h) o.fresh (Then h e sent) (fresh_new t jobs (questions h) (firsts h) (Then h e sent) sent o (firsts_proper t jobs h s)) (due_sends t h) (falls_at t h e)
       (sent_as_due t jobs w r h s) (due_unsent t w r h) (λ m k. due_next t w r h e sent m (ap (has_name m) (firsts_next t jobs h e sent s o) ∙ k))
 
-  pub repeats_none : (sent : List (List ℕ)) (o : IsOwed t jobs [] [] (Begin sent) sent) → o.again ≡ filter (λ q. false) o.fresh
+  pub repeats_none : (sent : List Outgoing) (o : IsOwed t jobs [] [] (Begin sent) sent) → o.again ≡ filter (λ q. false) o.fresh
   repeats_none sent o =
       o.repeats
       ∙ again_are t [] [] o.fresh (Begin sent) (fresh_new t jobs [] [] (Begin sent) sent o (All-nil _)) (λ m. 1) (λ m. false) (λ m. refl) (λ m k. refl) (λ m k. due_begin t w r sent m)
 
   -- what is owed is the same where the numbers are
-  sent_from : (sent other : List (List ℕ)) (fresh again fresh' again' : List Question) → sent ≡ map octets_of (fresh ++ again) → other ≡ map octets_of (fresh' ++ again') → fresh ≡ fresh' → again ≡ again' → sent ≡ other
-  sent_from sent other fresh again fresh' again' e f g k =
-      e ∙ ap (λ (qs : List Question). map octets_of (qs ++ again)) g ∙ ap (λ (qs : List Question). map octets_of (fresh' ++ qs)) k ∙ sym f
+  sent_from : (earlier : List Question) (sent other : List Outgoing) (fresh again fresh' again' : List Question) → sent ≡ outgoing_from earlier (fresh ++ again)
+      → other ≡ outgoing_from earlier (fresh' ++ again') → fresh ≡ fresh' → again ≡ again' → sent ≡ other
+  sent_from earlier sent other fresh again fresh' again' e f g k =
+      e ∙ ap (λ (qs : List Question). outgoing_from earlier (qs ++ again)) g ∙ ap (λ (qs : List Question). outgoing_from earlier (fresh' ++ qs)) k ∙ sym f
 
-  drawn_next : (h : Turns) (e : Event) (sent : List (List ℕ)) → SendsOwed t jobs h → (o : IsOwed t jobs (questions h) (firsts h) (Then h e sent) sent) → drawn (Then h e sent) ≡ drawn h ++ ids_of o.fresh
+  drawn_next : (h : Turns) (e : Event) (sent : List Outgoing) → SendsOwed t jobs h → (o : IsOwed t jobs (questions h) (firsts h) (Then h e sent) sent) → drawn (Then h e sent) ≡ drawn h ++ ids_of o.fresh
   drawn_next h e sent s o = ap ids_of (firsts_next t jobs h e sent s o) ∙ map-append (λ (q : Question). q.id) (firsts h) o.fresh
 
-  same_then : (h : Turns) (e : Event) (sent other : List (List ℕ)) → SendsOwed t jobs h
+  same_then : (h : Turns) (e : Event) (sent other : List Outgoing) → SendsOwed t jobs h
       → IsOwed t jobs (questions h) (firsts h) (Then h e sent) sent → IsOwed t jobs (questions h) (firsts h) (Then h e other) other
       → AreNumbered (drawn (Then h e sent)) → AreNumbered (drawn (Then h e other)) → sent ≡ other
   same_then h e sent other s o p one two =
@@ -111,10 +113,10 @@ module _ (t : Terms) (jobs : List Job) (w : 0 < t.wait) (r : 0 < t.tries) where
       (o.asks ∙ ap (λ (M : Map). once (names_of (firsts h)) (wanted jobs M)) (told_by_event t h e sent other) ∙ sym p.asks)
       (subst AreNumbered (drawn_next h e sent s o) one) (subst AreNumbered (drawn_next h e other s p) two) in
       let again : o.again ≡ p.again =
-      repeats_fall h e sent s o ∙ ap (λ (qs : List Question). filter (λ q. falls_due t h e q.name) (firsts h ++ qs)) fresh ∙ sym (repeats_fall h e other s p) in
-      sent_from sent other o.fresh o.again p.fresh p.again o.octets p.octets fresh again
+      repeats_fall h e sent s o ∙ ap (λ (qs : List Question). filter (λ q. falls_at t h e q.name) (firsts h ++ qs)) fresh ∙ sym (repeats_fall h e other s p) in
+      sent_from (questions h) sent other o.fresh o.again p.fresh p.again o.out p.out fresh again
 
-  same_begin : (sent other : List (List ℕ)) → IsOwed t jobs [] [] (Begin sent) sent → IsOwed t jobs [] [] (Begin other) other
+  same_begin : (sent other : List Outgoing) → IsOwed t jobs [] [] (Begin sent) sent → IsOwed t jobs [] [] (Begin other) other
       → AreNumbered (drawn (Begin sent)) → AreNumbered (drawn (Begin other)) → sent ≡ other
   same_begin sent other o p one two =
       let fresh : o.fresh ≡ p.fresh =
@@ -122,7 +124,7 @@ module _ (t : Terms) (jobs : List Job) (w : 0 < t.wait) (r : 0 < t.tries) where
       (o.asks ∙ ap (λ (M : Map). once [] (wanted jobs M)) (told_none t sent other) ∙ sym p.asks)
       (subst AreNumbered (ap ids_of (firsts_of_begin t jobs sent o)) one) (subst AreNumbered (ap ids_of (firsts_of_begin t jobs other p)) two) in
       let again : o.again ≡ p.again = repeats_none sent o ∙ ap (λ (qs : List Question). filter (λ q. false) qs) fresh ∙ sym (repeats_none other p) in
-      sent_from sent other o.fresh o.again p.fresh p.again o.octets p.octets fresh again
+      sent_from [] sent other o.fresh o.again p.fresh p.again o.out p.out fresh again
 
 -- ---- fronts
 
@@ -143,7 +145,7 @@ waited t jobs h (Then before e sent) (inl same) waits = ap (some_wait t jobs) sa
 waited t jobs h (Then before e sent) (inr b) waits = waited t jobs h before b waits.0
 
 module _ (answers : AnswerMap) (t : Terms) (jobs : List Job) (w : 0 < t.wait) (r : 0 < t.tries) where
-  pub so_far : (h : Turns) (e : Event) (sent : List (List ℕ)) → IsSoFar answers t jobs (Then h e sent) → IsSoFar answers t jobs h
+  pub so_far : (h : Turns) (e : Event) (sent : List Outgoing) → IsSoFar answers t jobs (Then h e sent) → IsSoFar answers t jobs h
   unfolding IsAnswered
   so_far h e sent log =
       record {
@@ -152,12 +154,12 @@ module _ (answers : AnswerMap) (t : Terms) (jobs : List Job) (w : 0 < t.wait) (r
         numbered = numbered_front (drawn h) (ids_of log.sends.1.fresh) (subst AreNumbered (drawn_next t jobs w r h e sent log.sends.0 log.sends.1) log.numbered);
       }
 
-  pub came : (h : Turns) (e : Event) (sent : List (List ℕ)) → IsSoFar answers t jobs (Then h e sent) → e ≡ event_by (due_reply answers h)
+  pub came : (h : Turns) (e : Event) (sent : List Outgoing) → IsSoFar answers t jobs (Then h e sent) → e ≡ event_by (due_reply answers h)
   unfolding IsAnswered
   came h e sent log = log.answered.1
 
   -- a log with one event more goes on as each longer log does
-  same_next : (h : Turns) (e e' : Event) (sent sent' : List (List ℕ)) → IsSoFar answers t jobs (Then h e sent) → IsSoFar answers t jobs (Then h e' sent') → Then h e sent ≡ Then h e' sent'
+  same_next : (h : Turns) (e e' : Event) (sent sent' : List Outgoing) → IsSoFar answers t jobs (Then h e sent) → IsSoFar answers t jobs (Then h e' sent') → Then h e sent ≡ Then h e' sent'
   same_next h e e' sent sent' one other = go e' (came h e sent one ∙ sym (came h e' sent' other)) other
     where
       go : (x : Event) → e ≡ x → IsSoFar answers t jobs (Then h x sent') → Then h e sent ≡ Then h x sent'
@@ -165,7 +167,7 @@ module _ (answers : AnswerMap) (t : Terms) (jobs : List Job) (w : 0 < t.wait) (r
           let log' : IsSoFar answers t jobs (Then h e sent') = subst (λ (y : Event). IsSoFar answers t jobs (Then h y sent')) (sym same) log in
           ap (Then h e) (same_then t jobs w r h e sent sent' one.sends.0 one.sends.1 log'.sends.1 one.numbered log'.numbered) ∙ ap (λ (y : Event). Then h y sent') same
 
-  next : (h : Turns) (e : Event) (sent : List (List ℕ)) (longer : Turns) → IsSoFar answers t jobs (Then h e sent) → IsSoFar answers t jobs longer → IsBefore h longer
+  next : (h : Turns) (e : Event) (sent : List Outgoing) (longer : Turns) → IsSoFar answers t jobs (Then h e sent) → IsSoFar answers t jobs longer → IsBefore h longer
       → (Then h e sent ≡ longer) ⊎ IsBefore (Then h e sent) longer
   next h e sent (Begin sent') one other b = absurd b
   next h e sent (Then h' e' sent') one other (inl same) =
@@ -197,8 +199,8 @@ module _ (answers : AnswerMap) (t : Terms) (jobs : List Job) (w : 0 < t.wait) (r
   so_far_of h log =
       record {
         sends = log.polled.sends;
-        answered = log.answered;
-        numbered = log.numbered ∙ ap first_numbers (sym (length-map (firsts h) (λ (q : Question). q.id)));
+        answered = log.in_memory.answered;
+        numbered = log.in_memory.numbered ∙ ap first_numbers (sym (length-map (firsts h) (λ (q : Question). q.id)));
       }
 
   same_turns : (one other : Turns) → IsLogOf answers t jobs one → IsLogOf answers t jobs other → one ≡ other
@@ -211,19 +213,16 @@ module _ (answers : AnswerMap) (t : Terms) (jobs : List Job) (w : 0 < t.wait) (r
 
 -- ---- from turns to moves
 
-abbrev pub move_of : Event → Move
-move_of (Given octets) = move.Given octets
-move_of Tick = move.Tick
-
 abbrev pub moves_of : Turns → List Move
-moves_of (Begin sent) = map move.Sent sent
-moves_of (Then before e sent) = moves_of before ++ move_of e ∷ map move.Sent sent
+moves_of (Begin sent) = map sent_move sent
+moves_of (Then before e sent) = moves_of before ++ move_of e ∷ map sent_move sent
 
 moves_more : (h : Turns) (m : Move) → moves_of (with_move h m) ≡ moves_of h ++ m ∷ []
-moves_more (Begin sent) (move.Sent octets) = map-append move.Sent sent (octets ∷ [])
-moves_more (Then h e sent) (move.Sent octets) =
-    ap (λ (l : List Move). moves_of h ++ move_of e ∷ l) (map-append move.Sent sent (octets ∷ []))
-    ∙ sym (append_assoc (moves_of h) (move_of e ∷ map move.Sent sent) (move.Sent octets ∷ []))
+moves_more (Begin sent) (move.Sent to octets) = map-append sent_move sent (record { to = to; octets = octets } ∷ [])
+moves_more (Then h e sent) (move.Sent to octets) =
+    let d : Outgoing = record { to = to; octets = octets } in
+    ap (λ (l : List Move). moves_of h ++ move_of e ∷ l) (map-append sent_move sent (d ∷ []))
+    ∙ sym (append_assoc (moves_of h) (move_of e ∷ map sent_move sent) (sent_move d ∷ []))
 moves_more h (move.Given octets) = refl
 moves_more h move.Tick = refl
 

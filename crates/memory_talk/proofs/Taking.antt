@@ -9,7 +9,8 @@ use Rattle.poll_log.specs.declared.question.Question.{Question}
 use Rattle.poll_log.specs.declared.terms.Terms.{Terms}
 use Rattle.poll_log.specs.Turns.{Turns, Given}
 use Rattle.poll_log.specs.Questions.{IsQuestion, firsts, has_name, number_in, same_name}
-use Rattle.poll_log.specs.Told.{accepted, accepted_in, age, limit, reply_to}
+use Rattle.poll_log.specs.Sendings.{limit}
+use Rattle.poll_log.specs.Told.{accepted, accepted_in, age, reply_to}
 use Rattle.poll_log.proofs.Asking.{firsts_named}
 use Rattle.poll_log.proofs.Counts.{seen_here}
 use Rattle.poll_log.proofs.Names.{same_itself, true_false}

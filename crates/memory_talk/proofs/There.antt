@@ -1,56 +1,35 @@
 -- There is a whole log: turn by turn, until no job waits.
-use Rattle.std.proofs.Common.{◌≡◌, ℕ, zero, suc, ◌+◌, ◌*◌, ◌<◌, ◌≤◌, Bool, true, false, List, [], ◌∷◌, ◌++◌, map, length, Option, Some, None, IsTrue, refl, sym, ◌∙◌, ap, subst, arith, append_assoc}
-use Rattle.std.specs.List.{All, AllByRecursion, cons_option, filter}
+use Rattle.std.proofs.Common.{◌≡◌, ℕ, zero, suc, ◌+◌, ◌*◌, ◌<◌, ◌≤◌, Bool, true, false, List, [], ◌∷◌, ◌++◌, length, refl, sym, ◌∙◌, ap, subst, arith, append_assoc}
+use Rattle.std.specs.List.{All, AllByRecursion, filter}
 use Rattle.std.proofs.lemmas.List.{append-nil, length-map, map-append}
-use Rattle.std.proofs.lemmas.List.Elements.{All-append, All-cons, All-filter, All-head, All-nil, All-same, All-tail}
-use Rattle.pac_names.specs.Names.{is_lookup_name}
+use Rattle.std.proofs.lemmas.List.Elements.{All-append, All-cons, All-filter, All-nil, All-same}
 use Rattle.pac_names.specs.declared.limits.TheConstants.{MOST_NAMES}
 use Rattle.js_host.specs.Answers.{AnswerMap}
-use Rattle.pac_ports.specs.declared.link.Move.TheVariants as move
 use Rattle.poll_log.specs.declared.question.Question.{Question}
 use Rattle.poll_log.specs.declared.terms.TheConstants.{FLOOD}
 use Rattle.poll_log.specs.declared.terms.Terms.{Terms}
-use Rattle.poll_log.specs.Turns.{Turns, Begin, Then, Event, Given, Tick, turns_of, with_moves, with_sent}
+use Rattle.poll_log.specs.Sendings.{limit}
+use Rattle.poll_log.specs.Turns.{Outgoing, Turns, Begin, Then, Event, turns_of}
 use Rattle.poll_log.specs.Beats.{events}
-use Rattle.poll_log.specs.Questions.{IsQuestion, asked_in, drawn, firsts, names_of, new_among, octets_of}
-use Rattle.poll_log.specs.Told.{Map, limit, told}
-use Rattle.poll_log.specs.Jobs.{Job, WaitsBefore, once, onto_new, some_wait, wanted}
+use Rattle.poll_log.specs.Questions.{IsQuestion, asked_in, drawn, first_sent, firsts, has_name, names_of, new_among, outgoing_from, questions}
+use Rattle.poll_log.specs.Told.{Map, due_sends, told}
+use Rattle.poll_log.specs.Jobs.{IsOwed, Job, WaitsBefore, once, some_wait, wanted}
 use Rattle.poll_log.specs.Laws.{IsRestartable}
-use Rattle.poll_log.proofs.Asking.{asked_in-octets}
+use Rattle.poll_log.proofs.Asking.{asked_in-outgoing}
 use Rattle.poll_log.proofs.BeatLaws.{events-begin, events-then}
 use Rattle.poll_log.proofs.Bounds.{bounded}
 use Rattle.poll_log.proofs.Counts.{seen_filter}
-use Rattle.poll_log.proofs.Dues.{firsts_proper, owed_begin, owed_then}
-use Rattle.poll_log.proofs.Grows.{with_moves-append}
-use Rattle.poll_log.proofs.Names.{AllNew, AllSeen, has, new_among-new, new_from-once, once-cons, once-none}
-use Rattle.poll_log.proofs.TurnLaws.{falls_due, firsts-begin, firsts-then}
+use Rattle.poll_log.proofs.Dues.{again_are, firsts_proper, owed_begin, sent_as_due}
+use Rattle.poll_log.proofs.Names.{AllNew, AllSeen, new_among-new, new_from-once}
+use Rattle.poll_log.proofs.Outgoing.{new_to_first}
+use Rattle.poll_log.proofs.TurnLaws.{due_next, due_unsent, falls_at, firsts-begin, firsts-then, told_by_event}
 use Rattle.poll_loop.specs.Task.{AsksLookupNames}
+use Rattle.poll_loop.proofs.Logs.{turns_begin, turns_more}
+use Rattle.poll_loop.proofs.Owing.{Named, once_named, wanted_named}
 use Rattle.pac_generate.specs.Answered.{IsAnswered, due_reply, event_by}
 use Rattle.memory_talk.specs.Numbers.{first_numbers, number_after}
 use Rattle.memory_talk.specs.Laws.{IsLogOf, LogIsThere}
-use Rattle.memory_talk.proofs.Same.{AreNumbered, IsSoFar, ids_of, length_numbers, move_of, moves_of, told_none}
-
--- ---- what is asked has lookup names
-
-abbrev Named : List ℕ → Type 0
-Named n = IsTrue (is_lookup_name n)
-
-wanted_named : (jobs : List Job) (M : Map) → All AsksLookupNames jobs → AllByRecursion Named (wanted jobs M)
-wanted_named [] M named = tt
-wanted_named (job ∷ jobs) M named = go (job M) refl (wanted_named jobs M (All-tail AsksLookupNames job jobs named))
-  where
-    go : (r : Option (List ℕ)) → job M ≡ r → AllByRecursion Named (wanted jobs M) → AllByRecursion Named (cons_option r (wanted jobs M))
-    go None e rest = rest
-    go (Some n) e rest = (All-head AsksLookupNames job jobs named M n e, rest)
-
-once_named : (seen ns : List (List ℕ)) → AllByRecursion Named ns → AllByRecursion Named (once seen ns)
-once_named seen [] named = subst (AllByRecursion Named) (sym (once-none seen)) tt
-once_named seen (n ∷ ns) named =
-    subst (AllByRecursion Named) (sym (once-cons seen n ns)) (go (has n seen) (once_named seen ns named.1) (once_named (seen ++ n ∷ []) ns named.1))
-  where
-    go : (b : Bool) → AllByRecursion Named (once seen ns) → AllByRecursion Named (once (seen ++ n ∷ []) ns) → AllByRecursion Named (onto_new b n (once seen ns) (once (seen ++ n ∷ []) ns))
-    go true left later = left
-    go false left later = (named.0, later)
+use Rattle.memory_talk.proofs.Same.{AreNumbered, IsSoFar, ids_of, length_numbers, moves_of, told_none}
 
 -- ---- questions under the next numbers
 
@@ -82,8 +61,9 @@ numbers_go_on before ns numbered =
     all ∙ ap first_numbers (sym (ap length all ∙ length_numbers (length before + length ns)))
 
 -- what is new among these questions
-new_sent : (before fresh again : List Question) → AllNew before fresh → AllSeen (before ++ fresh) again → All IsQuestion (fresh ++ again) → new_among before (asked_in (map octets_of (fresh ++ again))) ≡ fresh
-new_sent before fresh again new seen proper = ap (new_among before) (asked_in-octets (fresh ++ again) proper) ∙ new_among-new before fresh again new seen
+new_sent : (earlier before fresh again : List Question) → AllNew before fresh → AllSeen (before ++ fresh) again → All IsQuestion (fresh ++ again)
+    → new_among before (asked_in (outgoing_from earlier (fresh ++ again))) ≡ fresh
+new_sent earlier before fresh again new seen proper = ap (new_among before) (asked_in-outgoing earlier (fresh ++ again) proper) ∙ new_among-new before fresh again new seen
 
 -- ---- turn by turn
 
@@ -104,12 +84,13 @@ module _ (answers : AnswerMap) (t : Terms) (jobs : List Job) (w : 0 < t.wait) (r
       let M : Map = told t (Begin []) in
       let ns : List (List ℕ) = once [] (wanted jobs M) in
       let fresh : List Question = numbered_from 0 ns in
-      let sent : List (List ℕ) = map octets_of fresh in
+      let sent : List Outgoing = first_sent fresh in
       let proper = all_asked 0 ns (asked_at [] M) in
       let new = new_from-once [] fresh (wanted jobs M) (their_names 0 ns) in
+      let out : sent ≡ outgoing_from [] (fresh ++ []) = sym (ap (outgoing_from []) (append-nil fresh) ∙ new_to_first [] [] fresh new (λ n k. refl)) in
       let names : firsts (Begin sent) ≡ fresh =
-      firsts-begin sent ∙ ap (λ (qs : List Question). new_among [] (asked_in (map octets_of qs))) (sym (append-nil fresh))
-      ∙ new_sent [] fresh [] new tt (All-same IsQuestion (fresh ++ []) fresh (append-nil fresh) proper) in
+      firsts-begin sent ∙ ap (λ (ds : List Outgoing). new_among [] (asked_in ds)) out
+      ∙ new_sent [] [] fresh [] new tt (All-same IsQuestion (fresh ++ []) fresh (append-nil fresh) proper) in
       record {
         turns = Begin sent;
         so_far = record {
@@ -129,19 +110,32 @@ module _ (answers : AnswerMap) (t : Terms) (jobs : List Job) (w : 0 < t.wait) (r
       let M : Map = told t (Then h e []) in
       let ns : List (List ℕ) = once (names_of (firsts h)) (wanted jobs M) in
       let fresh : List Question = numbered_from (length (drawn h)) ns in
-      let falls : Question → Bool = λ q. falls_due t h e q.name in
+      let falls : Question → Bool = λ q. falls_at t h e q.name in
       let again : List Question = filter falls (firsts h ++ fresh) in
-      let sent : List (List ℕ) = map octets_of (fresh ++ again) in
+      let sent : List Outgoing = outgoing_from (questions h) (fresh ++ again) in
       let asks = their_names (length (drawn h)) ns in
       let proper = all_asked (length (drawn h)) ns (asked_at (firsts h) M) in
       let all = All-append IsQuestion fresh again proper (All-filter falls IsQuestion (firsts h ++ fresh) (All-append IsQuestion (firsts h) fresh (firsts_proper t jobs h o.so_far.sends) proper)) in
+      let new = new_from-once (firsts h) fresh (wanted jobs M) asks in
       let names : firsts (Then h e sent) ≡ firsts h ++ fresh =
-      firsts-then h e sent ∙ ap (λ (qs : List Question). firsts h ++ qs) (new_sent (firsts h) fresh again (new_from-once (firsts h) fresh (wanted jobs M) asks) (seen_filter falls [] (firsts h ++ fresh)) all) in
+      firsts-then h e sent ∙ ap (λ (qs : List Question). firsts h ++ qs) (new_sent (questions h) (firsts h) fresh again new (seen_filter falls [] (firsts h ++ fresh)) all) in
+      let due =
+      again_are t (questions h) (firsts h) fresh (Then h e sent) new (due_sends t h) (falls_at t h e) (sent_as_due t jobs w r h o.so_far.sends) (due_unsent t w r h)
+      (λ n k. due_next t w r h e sent n (ap (has_name n) names ∙ k)) in
+      let owed : IsOwed t jobs (questions h) (firsts h) (Then h e sent) sent =
+      record {
+        fresh = fresh;
+        again = again;
+        asks = asks ∙ ap (λ (N : Map). once (names_of (firsts h)) (wanted jobs N)) (told_by_event t h e [] sent);
+        proper = proper;
+        repeats = sym due;
+        out = refl;
+      } in
       let numbers : drawn (Then h e sent) ≡ drawn h ++ ids_of fresh = ap ids_of names ∙ map-append (λ (q : Question). q.id) (firsts h) fresh in
       record {
         turns = Then h e sent;
         so_far = record {
-          sends = (o.so_far.sends, owed_then t jobs w r h e fresh again o.so_far.sends asks proper refl);
+          sends = (o.so_far.sends, owed);
           answered = (o.so_far.answered, refl);
           numbered = subst AreNumbered (sym numbers) (numbers_go_on (drawn h) ns o.so_far.numbered);
         };
@@ -164,8 +158,10 @@ module _ (answers : AnswerMap) (t : Terms) (jobs : List Job) (w : 0 < t.wait) (r
     o.turns,
     record {
       polled = record { sends = o.so_far.sends; waits = o.waited; ended = e };
-      answered = o.so_far.answered;
-      numbered = o.so_far.numbered ∙ ap first_numbers (length-map (firsts o.turns) (λ (q : Question). q.id));
+      in_memory = record {
+        answered = o.so_far.answered;
+        numbered = o.so_far.numbered ∙ ap first_numbers (length-map (firsts o.turns) (λ (q : Question). q.id));
+      };
     },
   )
 
@@ -184,22 +180,9 @@ module _ (answers : AnswerMap) (t : Terms) (jobs : List Job) (w : 0 < t.wait) (r
 
 -- ---- from turns to moves
 
-sends_back : (h : Turns) (sent : List (List ℕ)) → with_moves h (map move.Sent sent) ≡ with_sent h sent
-unfolding with_moves
-sends_back (Begin sent') [] = ap Begin (sym (append-nil sent'))
-sends_back (Then h e sent') [] = ap (Then h e) (sym (append-nil sent'))
-sends_back (Begin sent') (octets ∷ sent) = sends_back (Begin (sent' ++ octets ∷ [])) sent ∙ ap Begin (append_assoc sent' (octets ∷ []) sent)
-sends_back (Then h e sent') (octets ∷ sent) = sends_back (Then h e (sent' ++ octets ∷ [])) sent ∙ ap (Then h e) (append_assoc sent' (octets ∷ []) sent)
-
-turn_back : (h : Turns) (e : Event) (sent : List (List ℕ)) → with_moves h (move_of e ∷ map move.Sent sent) ≡ Then h e sent
-unfolding with_moves
-turn_back h (Given octets) sent = sends_back (Then h (Given octets) []) sent
-turn_back h Tick sent = sends_back (Then h Tick []) sent
-
 turns_back : (h : Turns) → turns_of (moves_of h) ≡ h
-turns_back (Begin sent) = sends_back (Begin []) sent
-turns_back (Then h e sent) =
-    with_moves-append (Begin []) (moves_of h) (move_of e ∷ map move.Sent sent) ∙ ap (λ (x : Turns). with_moves x (move_of e ∷ map move.Sent sent)) (turns_back h) ∙ turn_back h e sent
+turns_back (Begin sent) = turns_begin sent
+turns_back (Then h e sent) = turns_more (moves_of h) e sent ∙ ap (λ (x : Turns). Then x e sent) (turns_back h)
 
 pub log_is_there : LogIsThere
 log_is_there answers task sound =

@@ -16,7 +16,8 @@ use Rattle.poll_log.specs.declared.question.Question.{Question}
 use Rattle.poll_log.specs.declared.terms.Terms.{Terms}
 use Rattle.poll_log.specs.Turns.{Turns, Begin, Then, Event, Given, Tick}
 use Rattle.poll_log.specs.Questions.{IsQuestion, firsts, has_name, number_in, same_name, was_sent}
-use Rattle.poll_log.specs.Told.{accepted, accepted_in, age, limit, or_else, reply_to, told}
+use Rattle.poll_log.specs.Sendings.{limit}
+use Rattle.poll_log.specs.Told.{accepted, accepted_in, age, or_else, reply_to, told}
 use Rattle.poll_log.proofs.Asking.{HasLookupName, firsts_named}
 use Rattle.poll_log.proofs.Names.{none_some, same_is, true_false}
 use Rattle.poll_log.proofs.TurnLaws.{told-begin, told_next}

@@ -15,7 +15,7 @@ use Rattle.poll_log.specs.declared.question.Question.{Question}
 use Rattle.poll_log.specs.declared.terms.Terms.{Terms}
 use Rattle.poll_log.specs.declared.terms.TheConstants.{FLOOD}
 use Rattle.poll_log.specs.Turns.{Turns, Begin, Then, Event, Given, turns_of}
-use Rattle.poll_log.specs.Questions.{drawn, firsts, questions}
+use Rattle.poll_log.specs.Questions.{firsts, questions}
 use Rattle.poll_log.specs.Told.{told}
 use Rattle.poll_log.specs.Jobs.{IsCut, IsFinished, IsPolled, Job, some_wait}
 use Rattle.poll_log.specs.Laws.{IsAllTold, IsRestartable}
@@ -25,7 +25,7 @@ use Rattle.session_log.specs.Sessions.{IsWhole}
 use Rattle.pac_generate.specs.Answered.{IsAnswered, reply_from}
 use Rattle.pac_generate.specs.Names.{site_map}
 use Rattle.pac_generate.specs.declared.limits.TheConstants.{MOST_MOVES, MOST_QUESTIONS}
-use Rattle.memory_talk.specs.Numbers.{first_numbers}
+use Rattle.memory_talk.specs.Talks.{IsMemoryLog}
 
 -- each address of the map has 32 bits
 abbrev pub AreAddresses : AnswerMap → Type 0
@@ -50,8 +50,7 @@ SitesHaveAddresses = (seed sites : ℕ) → AreAddresses (site_map seed sites)
 -- A whole log of jobs that is answered from a map, and whose first sends carry 0, 1, 2 and so on.
 pub record IsLogOf (answers : AnswerMap) (terms : Terms) (jobs : List Job) (turns : Turns) : Type 0 where
   pub polled : IsPolled terms jobs turns
-  pub answered : IsAnswered answers turns
-  pub numbered : drawn turns ≡ first_numbers (length (firsts turns))
+  pub in_memory : IsMemoryLog answers turns
 
 -- there is at most one
 abbrev pub OneLog : Type 0
@@ -68,8 +67,7 @@ LogIsThere =
 -- Such a log that is cut short.
 pub record IsCutLogOf (answers : AnswerMap) (terms : Terms) (jobs : List Job) (turns : Turns) : Type 0 where
   pub cut : IsCut terms jobs turns
-  pub answered : IsAnswered answers turns
-  pub numbered : drawn turns ≡ first_numbers (length (firsts turns))
+  pub in_memory : IsMemoryLog answers turns
 
 -- it is a front of the whole one
 abbrev pub CutIsFront : Type 0

@@ -3,7 +3,7 @@
 use Rattle.std.specs.Prelude.{◌≡◌, ◌+◌, ◌≤◌, List, length}
 use Rattle.js_host.specs.Answers.{AnswerMap}
 use Rattle.pac_ports.specs.declared.link.Move.{Move}
-use Rattle.poll_log.specs.Turns.{turns_of}
+use Rattle.poll_log.specs.Turns.{Turns, turns_of}
 use Rattle.poll_log.specs.Questions.{drawn, firsts}
 use Rattle.poll_log.specs.Jobs.{IsCut, IsPolled}
 use Rattle.pac_plan.specs.Plan.{End, Outside, whole, faulted, unfinished}
@@ -16,12 +16,16 @@ pub record MemoryTalk : Type 0 where
   pub answers : AnswerMap
   pub task : Task
 
+-- A log over a link that answers from a map, with dice that count.
+pub record IsMemoryLog (answers : AnswerMap) (turns : Turns) : Type 0 where
+  pub answered : IsAnswered answers turns
+  -- the names that were sent first carry these numbers, in order
+  pub numbered : drawn turns ≡ first_numbers (length (firsts turns))
+
 -- Nobody waits any more.
 pub record EndsAnswered (talk : MemoryTalk) (old : Outside) (log : List Move) (new : Outside) : Type 0 where
   pub polled : IsPolled talk.task.terms talk.task.jobs (turns_of log)
-  pub answered : IsAnswered talk.answers (turns_of log)
-  -- the names that were sent first carry these numbers, in order
-  pub numbered : drawn (turns_of log) ≡ first_numbers (length (firsts (turns_of log)))
+  pub in_memory : IsMemoryLog talk.answers (turns_of log)
   pub ran : new ≡ record old { runs = old.runs + talk.task.runs (turns_of log) }
 
 -- Memory ran out, or the room of the link.

@@ -1,4 +1,4 @@
-//! The link over UDP beside a peer on loopback, and dice.
+//! The link over UDP beside servers and a stranger on loopback, and dice.
 //!
 //! It has tests alone, and stands on pac_net.
 #![tactic(auto)]

@@ -1,6 +1,6 @@
-// Two sockets on loopback, in one process.
+// Sockets on loopback, in one process.
 use pac_net::{RandomDice, UdpLink};
-use pac_ports::{Dice, Got, Link, Server};
+use pac_ports::{Dice, Got, Link, Server, Which};
 use std::io;
 use std::net::{Ipv4Addr, SocketAddr, UdpSocket};
 
@@ -8,63 +8,143 @@ fn loopback(port: u16) -> SocketAddr {
     SocketAddr::from((Ipv4Addr::LOCALHOST, port))
 }
 
-// A link to the socket.
-fn opened<'a>(rt: &'a HostRuntime, far: &UdpSocket) -> io::Result<UdpLink<'a, HostRuntime>> {
-    let mut link = UdpLink::new(rt);
-    let port = far.local_addr()?.port();
-    let server = Server {
+// A socket of any port of loopback.
+fn bound(rt: &HostRuntime) -> io::Result<UdpSocket> {
+    UdpSocket::bind(rt, loopback(0))
+}
+
+// The server whose socket this is.
+fn server(socket: &UdpSocket) -> io::Result<Server> {
+    Ok(Server {
         address: 0x7f00_0001,
-        port,
-    };
-    match link.open(server) {
+        port: socket.local_addr()?.port(),
+    })
+}
+
+// A link to two sockets.
+fn opened<'a>(
+    rt: &'a HostRuntime,
+    first: &UdpSocket,
+    second: &UdpSocket,
+) -> io::Result<UdpLink<'a, HostRuntime>> {
+    let mut link = UdpLink::new(rt);
+    match link.open(server(first)?, server(second)?) {
         Ok(()) => Ok(link),
         Err(_) => Err(io::Error::other("the link isn't open")),
     }
 }
 
-#[test]
-fn two_sockets_talk(rt: HostRuntime) -> io::Result<()> {
-    let far = UdpSocket::bind(&rt, loopback(0))?;
-    let mut link = opened(&rt, &far)?;
-    let mut buffer = [0u8; 512];
+// Where the datagram came from that a socket has received, if it is this one.
+fn sender_of(wanted: &[u8], socket: &UdpSocket) -> io::Result<SocketAddr> {
     let mut heard = [0u8; 512];
-    assert!(rt; link.send(b"question").is_ok());
-    let (count, near) = far.recv_from(&mut heard)?;
-    assert!(rt; count == 8 && heard.starts_with(b"question"));
-    far.send_to(b"reply", near)?;
+    let (count, near) = socket.recv_from(&mut heard)?;
+    if count == wanted.len() && heard.starts_with(wanted) {
+        return Ok(near);
+    }
+    Err(io::Error::other("another datagram"))
+}
+
+#[test]
+fn both_servers_are_asked_and_heard(rt: HostRuntime) -> io::Result<()> {
+    let first = bound(&rt)?;
+    let second = bound(&rt)?;
+    let mut link = opened(&rt, &first, &second)?;
+    let mut buffer = [0u8; 512];
+    assert!(rt; link.send(Which::First, b"question").is_ok());
+    let near = sender_of(b"question", &first)?;
+    assert!(rt; link.send(Which::Second, b"again").is_ok());
+    assert!(rt; sender_of(b"again", &second)? == near);
+    second.send_to(b"reply", near)?;
     assert!(rt; link.receive(&mut buffer) == Ok(Got::Datagram(5)));
     assert!(rt; buffer.starts_with(b"reply"));
+    first.send_to(b"late", near)?;
+    assert!(rt; link.receive(&mut buffer) == Ok(Got::Datagram(4)));
+    assert!(rt; buffer.starts_with(b"late"));
+    assert!(rt; link.receive(&mut buffer) == Ok(Got::Tick));
+    Ok(())
+}
+
+#[test]
+fn a_server_that_was_not_asked_is_heard(rt: HostRuntime) -> io::Result<()> {
+    let first = bound(&rt)?;
+    let second = bound(&rt)?;
+    let mut link = opened(&rt, &first, &second)?;
+    let mut buffer = [0u8; 512];
+    assert!(rt; link.send(Which::First, b"question").is_ok());
+    let near = sender_of(b"question", &first)?;
+    second.send_to(b"reply", near)?;
+    assert!(rt; link.receive(&mut buffer) == Ok(Got::Datagram(5)));
+    assert!(rt; buffer.starts_with(b"reply"));
+    Ok(())
+}
+
+#[test]
+fn long_datagrams_are_empty(rt: HostRuntime) -> io::Result<()> {
+    let far = bound(&rt)?;
+    let mut link = opened(&rt, &far, &far)?;
+    let mut buffer = [0u8; 512];
+    assert!(rt; link.send(Which::Second, b"question").is_ok());
+    let near = sender_of(b"question", &far)?;
     // 512 octets are handed on, one more is an empty datagram
     far.send_to(&[7; 512], near)?;
     assert!(rt; link.receive(&mut buffer) == Ok(Got::Datagram(512)));
-    far.send_to(&[7; 513], near)?;
+    assert!(rt; buffer == [7; 512]);
+    far.send_to(&[8; 513], near)?;
     assert!(rt; link.receive(&mut buffer) == Ok(Got::Datagram(0)));
-    assert!(rt; link.receive(&mut buffer) == Ok(Got::Tick));
+    assert!(rt; buffer == [7; 512]);
     Ok(())
 }
 
+// The strangers have the address of a server and another port, or its port and another address.
 #[test]
-fn another_sender_is_not_heard(rt: HostRuntime) -> io::Result<()> {
-    let far = UdpSocket::bind(&rt, loopback(0))?;
-    let other = UdpSocket::bind(&rt, loopback(0))?;
-    let mut link = opened(&rt, &far)?;
-    let mut buffer = [0u8; 512];
-    let mut heard = [0u8; 512];
-    assert!(rt; link.send(b"question").is_ok());
-    let (_, near) = far.recv_from(&mut heard)?;
+fn strangers_are_heard_as_empty(rt: HostRuntime) -> io::Result<()> {
+    let first = bound(&rt)?;
+    let second = bound(&rt)?;
+    let other = bound(&rt)?;
+    let place = SocketAddr::from((Ipv4Addr::new(127, 0, 0, 2), first.local_addr()?.port()));
+    let neighbour = UdpSocket::bind(&rt, place)?;
+    let mut link = opened(&rt, &first, &second)?;
+    let mut buffer = [7u8; 512];
+    assert!(rt; link.send(Which::First, b"question").is_ok());
+    let near = sender_of(b"question", &first)?;
     other.send_to(b"forged", near)?;
+    assert!(rt; link.receive(&mut buffer) == Ok(Got::Datagram(0)));
+    neighbour.send_to(b"forged", near)?;
+    assert!(rt; link.receive(&mut buffer) == Ok(Got::Datagram(0)));
+    assert!(rt; buffer == [7; 512]);
     assert!(rt; link.receive(&mut buffer) == Ok(Got::Tick));
     Ok(())
 }
 
+// A socket that is connected to nobody isn't told that nobody listens.
 #[test]
-fn a_refused_port_is_a_fault(rt: HostRuntime) -> io::Result<()> {
-    let far = UdpSocket::bind(&rt, loopback(0))?;
-    let mut link = opened(&rt, &far)?;
+fn a_closed_port_is_silent(rt: HostRuntime) -> io::Result<()> {
+    let first = bound(&rt)?;
+    let second = bound(&rt)?;
+    let mut link = opened(&rt, &first, &second)?;
     let mut buffer = [0u8; 512];
-    drop(far);
-    assert!(rt; link.send(b"question").is_ok());
-    assert!(rt; link.receive(&mut buffer).is_err());
+    drop(first);
+    assert!(rt; link.send(Which::First, b"question").is_ok());
+    assert!(rt; link.receive(&mut buffer) == Ok(Got::Tick));
+    assert!(rt; link.send(Which::Second, b"question").is_ok());
+    let near = sender_of(b"question", &second)?;
+    second.send_to(b"reply", near)?;
+    assert!(rt; link.receive(&mut buffer) == Ok(Got::Datagram(5)));
+    Ok(())
+}
+
+#[test]
+fn a_call_that_the_machine_refuses_is_a_fault(rt: HostRuntime) -> io::Result<()> {
+    let everybody = Server {
+        address: 0xffff_ffff,
+        port: 53,
+    };
+    let mut link = UdpLink::new(&rt);
+    assert!(rt; link.send(Which::First, b"question").is_err());
+    assert!(rt; link.receive(&mut [0; 512]).is_err());
+    assert!(rt; link.open(everybody, everybody).is_ok());
+    assert!(rt; link.send(Which::First, b"question").is_err());
+    assert!(rt; link.receive(&mut [0; 512]) == Ok(Got::Tick));
     Ok(())
 }
 

@@ -18,6 +18,6 @@ by_told name (Some (answer.Address address)) finished e = cc
 by_told name (Some answer.NoAddress) finished e = cc
 
 pub answered : ToldIsAnswered
-answered asking name log polled all e =
-    by_told name (told asking.terms (turns_of log) name)
-    (all_finished asking.terms (job_of name ∷ []) (turns_of log) polled.ended all 0 (job_of name) (omega arith)) e
+answered upstream name log polled all e =
+    by_told name (told upstream.terms (turns_of log) name)
+    (all_finished upstream.terms (job_of name ∷ []) (turns_of log) polled.ended all 0 (job_of name) (omega arith)) e

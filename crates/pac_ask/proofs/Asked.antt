@@ -1,6 +1,6 @@
 -- One name: what is told of it and what it is owed, from event to event.
-use Rattle.std.proofs.Common.{◌≡◌, ℕ, ◌+◌, ◌-◌, ◌<◌, ◌%◌, Bool, true, false, cond, ◌||◌, ◌&&◌, not, List, [], ◌∷◌, ◌++◌, map, Option, Some, None, is_none, refl, sym, ◌∙◌, ap, subst, arith, nat_lt, nat_le, ◌==◌}
-use Rattle.std.specs.List.{cons_option, filter}
+use Rattle.std.proofs.Common.{◌≡◌, ℕ, ◌<◌, Bool, true, false, cond, ◌||◌, ◌&&◌, not, List, [], ◌∷◌, ◌++◌, map, Option, Some, None, is_none, refl, sym, ◌∙◌, ap, subst, arith, nat_lt, nat_le}
+use Rattle.std.specs.List.{cons_option, filter_map}
 use Rattle.std.proofs.lemmas.Bool.Decides.{nat_tests}
 use Rattle.std.proofs.lemmas.List.{append-nil}
 use Rattle.std.proofs.lemmas.List.Elements.{All-nil}
@@ -8,24 +8,27 @@ use mathlib.Core.Path.{fun_ext}
 use Rattle.pac_names.specs.declared.answer.Answer.{Answer}
 use Rattle.dns_message.specs.Reply.{reply_of}
 use Rattle.poll_log.specs.declared.question.Question.{Question}
+use Rattle.poll_log.specs.declared.sending.Sending.{Sending}
 use Rattle.poll_log.specs.declared.terms.Terms.{Terms}
-use Rattle.poll_log.specs.Turns.{Turns, Then, Event, Given, Tick}
+use Rattle.poll_log.specs.Turns.{Outgoing, Turns, Then, Event, Given, Tick}
 use Rattle.poll_log.specs.Beats.{is_beat}
-use Rattle.poll_log.specs.Questions.{IsQuestion, asked_in, octets_of, firsts, questions, names_of, new_among, has_name, number_in}
-use Rattle.poll_log.specs.Told.{Map, accepted, accepted_in, age, limit, or_else, reply_to, told}
-use Rattle.poll_log.specs.Moment.{flies, flight_at, flights_in, is_sent_again, older}
+use Rattle.poll_log.specs.Questions.{IsQuestion, asked_in, outgoing_of, firsts, questions, names_of, new_among, number_in}
+use Rattle.poll_log.specs.Sendings.{limit}
+use Rattle.poll_log.specs.Told.{Map, accepted, accepted_in, age, or_else, reply_to, told}
+use Rattle.poll_log.specs.Moment.{flies, flight_at, flights_in}
 use Rattle.poll_log.specs.Jobs.{IsOwed, SendsOwed, once, wanted}
 use Rattle.poll_log.specs.Laws.{lacking_or}
 use Rattle.poll_log.proofs.Names.{cons_parts, once-none, once-seen, same_itself}
 use Rattle.poll_log.proofs.Asking.{firsts_named}
-use Rattle.poll_log.proofs.Counts.{filter_alike}
 use Rattle.poll_log.proofs.Dues.{firsts_next, firsts_proper, new_now, owed_then}
 use Rattle.poll_log.proofs.TurnLaws.{distinct, falls_due, told_next}
-use Rattle.stub_poller.specs.State.{StubState, answered_by, given, named_or, resent}
+use Rattle.stub_poller.specs.State.{StubState, answered_by, given, named_or}
 use Rattle.stub_poller.specs.Shows.{Shows}
 use Rattle.stub_poller.specs.Driven.{asking_all, beaten_if, driven, receiving}
-use Rattle.stub_poller.proofs.Showing.{flights_cons, flights_nil, given_shows, older_age, resent_shows, told_by}
+use Rattle.stub_poller.proofs.Ages.{lasts}
+use Rattle.stub_poller.proofs.Showing.{flights_cons, flights_nil, given_shows, told_by}
 use Rattle.stub_poller.proofs.Driving.{driven_shows, driven_terms}
+use Rattle.stub_poller.proofs.Falling.{again_falls, again_if}
 use Rattle.pac_ask.specs.Task.{job_of}
 use Rattle.pac_ask.specs.OneName.{found_or}
 
@@ -78,21 +81,17 @@ heard (Given d) stub answer = found_or (answered_by d stub.flights) answer
 heard Tick stub answer = answer
 
 -- what is sent at an event, where it is a beat and where not
-abbrev pub again_at : Bool → Event → StubState → List Question
-again_at true e stub = resent (receiving e stub)
-again_at false e stub = []
+abbrev pub again_at : Bool → Event → StubState → List Sending
+again_at b e stub = again_if b (receiving e stub)
 
 module _ (t : Terms) (name : List ℕ) (w : 0 < t.wait) (r : 0 < t.tries) (h : Turns) (asked : names_of (firsts h) ≡ name ∷ []) where
   one : One name (firsts h)
   one = one_of name (firsts h) asked
 
-  lasting : 0 < limit t
-  lasting = grind (arith)
-
   shown : Shows (driven t h) (told t h) (age h) (firsts h)
-  shown = driven_shows t h lasting
+  shown = driven_shows t h (lasts t w r)
 
-  pub heard_is_told : (e : Event) (sent : List (List ℕ)) → heard e (driven t h) (told t h name) ≡ told t (Then h e sent) name
+  pub heard_is_told : (e : Event) (sent : List Outgoing) → heard e (driven t h) (told t h name) ≡ told t (Then h e sent) name
   unfolding accepted
   heard_is_told (Given d) sent =
       ap (λ fs. found_or (answered_by d fs) (told t h name)) (shown.flying ∙ ap (λ x. flights_in (limit x) (told t h) (age h) (firsts h)) (driven_terms t h) ∙ ap (flights_in (limit t) (told t h) (age h)) one.alone)
@@ -116,22 +115,8 @@ module _ (t : Terms) (name : List ℕ) (w : 0 < t.wait) (r : 0 < t.tries) (h : T
   receiving_terms (Given d) = driven_terms t h
   receiving_terms Tick = driven_terms t h
 
-  falling : (e : Event) (b : Bool) → is_beat h e ≡ b → again_at b e (driven t h) ≡ filter (λ q. falls_due t h e q.name) (firsts h)
-  falling e true k =
-      resent_shows (receiving e (driven t h)) (told t (Then h e [])) (age h) (firsts h) (receiving_shows e)
-      ∙ ap (λ x. filter (is_sent_again x (told t (Then h e [])) (older (firsts h) (age h))) (firsts h)) (receiving_terms e)
-      ∙ filter_alike (is_sent_again t (told t (Then h e [])) (older (firsts h) (age h))) (λ q. falls_due t h e q.name) [] (firsts h) (λ q s. due q s)
-    where
-      due : (q : Question) → has_name q.name (firsts h) ≡ true → is_sent_again t (told t (Then h e [])) (older (firsts h) (age h)) q ≡ falls_due t h e q.name
-      due q s =
-          ap (λ x. (is_none (told t (Then h e []) q.name) && nat_lt x (limit t)) && ((x % t.wait) == 0)) (older_age (firsts h) (age h) q.name s)
-          ∙ ap (λ b. b && ((is_none (told t (Then h e []) q.name) && nat_lt (age h q.name + 1) (limit t)) && (((age h q.name + 1) % t.wait) == 0))) (sym k)
-  falling e false k =
-      sym (filter_alike (λ q. falls_due t h e q.name) (λ q. false) [] (firsts h) (λ q s. ap (λ b. b && ((is_none (told t (Then h e []) q.name) && nat_lt (age h q.name + 1) (limit t)) && (((age h q.name + 1) % t.wait) == 0))) k) ∙ none (firsts h))
-    where
-      none : (qs : List Question) → filter (λ q. false) qs ≡ []
-      none [] = refl
-      none (q ∷ qs) = none qs
+  falling : (e : Event) (b : Bool) → is_beat h e ≡ b → again_at b e (driven t h) ≡ filter_map (falls_due t h e) (firsts h)
+  falling e b k = again_falls t h e (firsts h) (receiving e (driven t h)) (receiving_terms e) (receiving_shows e) b k
 
   -- no other name is wanted
   nothing_new : (M : Map) → [] ≡ once (names_of (firsts h)) (wanted (job_of name ∷ []) M)
@@ -142,13 +127,13 @@ module _ (t : Terms) (name : List ℕ) (w : 0 < t.wait) (r : 0 < t.tries) (h : T
       go None = sym (ap (λ l. once l (name ∷ [])) asked ∙ once-seen (name ∷ []) name (ap (λ b. b || false) (same_itself name)))
 
   module _ (sends : SendsOwed t (job_of name ∷ []) h) (e : Event) where
-    abbrev pub now : List (List ℕ)
-    now = map octets_of (again_at (is_beat h e) e (driven t h))
+    abbrev pub now : List Outgoing
+    now = map outgoing_of (again_at (is_beat h e) e (driven t h))
 
     pub owed : IsOwed t (job_of name ∷ []) (questions h) (firsts h) (Then h e now) now
     owed =
         owed_then t (job_of name ∷ []) w r h e [] (again_at (is_beat h e) e (driven t h)) sends (nothing_new (told t (Then h e []))) (All-nil IsQuestion)
-        (falling e (is_beat h e) refl ∙ ap (filter (λ q. falls_due t h e q.name)) (sym (append-nil (firsts h))))
+        (falling e (is_beat h e) refl ∙ ap (filter_map (falls_due t h e)) (sym (append-nil (firsts h))))
 
     fresh_none : owed.fresh ≡ []
     fresh_none = names_none owed.fresh (owed.asks ∙ sym (nothing_new (told t (Then h e now))))

@@ -6,20 +6,21 @@ use Rattle.pac_names.specs.declared.answer.Answer.{Answer}
 use Rattle.pac_names.specs.Names.{is_lookup_name}
 use Rattle.pac_ports.specs.Dice.{DiceTold, Gave}
 use Rattle.poll_log.specs.declared.question.Question.{Question}
+use Rattle.poll_log.specs.declared.sending.Sending.{Sending}
 use Rattle.poll_log.specs.declared.terms.Terms.{Terms}
-use Rattle.poll_log.specs.Turns.{Begin}
+use Rattle.poll_log.specs.Turns.{Begin, Outgoing}
 use Rattle.poll_log.specs.Beats.{last_stretch, stretches}
-use Rattle.poll_log.specs.Questions.{IsQuestion, asked_in, octets_of, names_of, new_among}
+use Rattle.poll_log.specs.Questions.{IsQuestion, asked_in, first_sending, first_sent, names_of, new_among, outgoing_of}
+use Rattle.poll_log.specs.Sendings.{AreTerms}
 use Rattle.poll_log.specs.Told.{told}
 use Rattle.poll_log.specs.Jobs.{once, wanted}
 use Rattle.poll_log.specs.Laws.{AsksInOrder, IsRestartable, lacking_or, only_behind}
-use Rattle.poll_log.proofs.Asking.{asked_in-octets}
+use Rattle.poll_log.proofs.Asking.{asked_by-octets_of}
 use Rattle.poll_log.proofs.Names.{none_some, once-new}
 use Rattle.poll_log.proofs.Dues.{owed_begin}
 use Rattle.poll_log.proofs.Orders.{runs_restartable}
 use Rattle.poll_log.proofs.TurnLaws.{firsts-begin, told-begin}
 use Rattle.stub_poller.specs.State.{asking, new_stub}
-use Rattle.stub_poller.specs.Ready.{AreTerms}
 use Rattle.stub_poller.specs.Driven.{asking_all, driven}
 use Rattle.pac_plan.specs.Plan.{Outside}
 use Rattle.poll_loop.specs.Task.{AsksLookupNames, IsSound}
@@ -31,27 +32,30 @@ use Rattle.pac_ask.specs.OneName.{StandsFor, new_one}
 use Rattle.pac_ask.specs.declared.one_name.OneName.{OneName}
 use Rattle.pac_names.specs.declared.limits.TheConstants.{MOST_NAMES}
 
-first_alone : (q : Question) → IsQuestion q → new_among [] (asked_in (octets_of q ∷ [])) ≡ q ∷ []
+first_alone : (q : Question) → IsQuestion q → new_among [] (asked_in (first_sent (q ∷ []))) ≡ q ∷ []
 unfolding new_among
-first_alone q p = ap (new_among []) (asked_in-octets (q ∷ []) (All-cons IsQuestion q [] p (All-nil IsQuestion)))
+first_alone q p = ap (λ r. new_among [] (cons_option r [])) (asked_by-octets_of q p)
 
 -- the first question is sent
-pub stands_begin : (t : Terms) (q : Question) → AreTerms t → IsQuestion q → Stands q.name None t (asking q (new_stub t)) 0 (task_of t q.name) (Begin (octets_of q ∷ []))
+pub stands_begin : (t : Terms) (q : Question) → AreTerms t → IsQuestion q → Stands q.name None t (asking q (new_stub t)) 0 (task_of t q.name) (Begin (first_sent (q ∷ [])))
 unfolding driven last_stretch stretches
 stands_begin t q w p =
     record {
       same = refl;
       ranges = w;
       named = p.name;
-      asked = ap names_of (firsts-begin (octets_of q ∷ []) ∙ first_alone q p);
+      asked = ap names_of (firsts-begin sent ∙ first_alone q p);
       sends = owed_begin t (job_of q.name ∷ []) w.waits w.tried (q ∷ []) asks (All-cons IsQuestion q [] p (All-nil IsQuestion));
       flying = ap (λ qs. asking_all qs (new_stub t)) (sym (first_alone q p));
-      answered = sym (told-begin t (octets_of q ∷ []) q.name);
+      answered = sym (told-begin t sent q.name);
       beating = refl;
     }
   where
-    asks : names_of (q ∷ []) ≡ once [] (wanted (job_of q.name ∷ []) (told t (Begin (map octets_of (q ∷ [])))))
-    asks = sym (ap (λ m. once [] (cons_option (lacking_or q.name m None) [])) (told-begin t (octets_of q ∷ []) q.name) ∙ once-new [] q.name refl)
+    sent : List Outgoing
+    sent = first_sent (q ∷ [])
+
+    asks : names_of (q ∷ []) ≡ once [] (wanted (job_of q.name ∷ []) (told t (Begin (first_sent (q ∷ [])))))
+    asks = sym (ap (λ m. once [] (cons_option (lacking_or q.name m None) [])) (told-begin t sent q.name) ∙ once-new [] q.name refl)
 
 in_order : (name : List ℕ) → AsksInOrder MOST_NAMES (λ map. name ∷ [])
 in_order name =
@@ -79,15 +83,15 @@ sound t name w named =
     go (Some x) n e = none_some n e
 
 -- polling begins
-pub began : (t : Terms) (q : Question) (one : OneName) (question : Question) (old : Outside) (dice : Option DiceTold) → AreTerms t → IsQuestion q → Gave old.dice q.id dice → one ≡ new_one t q → question ≡ q → Began (StandsFor one (task_of t q.name)) (task_of t q.name) (octets_of question ∷ []) old dice old.runs
-began t q one question old dice w p gave e f =
+pub began : (t : Terms) (q : Question) (one : OneName) (first : Sending) (old : Outside) (dice : Option DiceTold) → AreTerms t → IsQuestion q → Gave old.dice q.id dice → one ≡ new_one t q → first ≡ first_sending q → Began (StandsFor one (task_of t q.name)) (task_of t q.name) (map outgoing_of (first ∷ [])) old dice old.runs
+began t q one first old dice w p gave e f =
     let s = stands_begin t q w p in
-    subst (λ x. Began (StandsFor x (task_of t q.name)) (task_of t q.name) (octets_of question ∷ []) old dice old.runs) (sym e)
-    (subst (λ x. Began (StandsFor (new_one t q) (task_of t q.name)) (task_of t q.name) (octets_of x ∷ []) old dice old.runs) (sym f)
+    subst (λ x. Began (StandsFor x (task_of t q.name)) (task_of t q.name) (map outgoing_of (first ∷ [])) old dice old.runs) (sym e)
+    (subst (λ x. Began (StandsFor (new_one t q) (task_of t q.name)) (task_of t q.name) (map outgoing_of (x ∷ [])) old dice old.runs) (sym f)
     (record {
       sound = sound t q.name w p.name;
       stands = s;
       owed = s.sends;
-      drew = subst (λ l. GaveAll old.dice (map (λ r. r.id) l) dice) (sym (firsts-begin (octets_of q ∷ []) ∙ first_alone q p)) (dice, gave, refl);
+      drew = subst (λ l. GaveAll old.dice (map (λ r. r.id) l) dice) (sym (firsts-begin (first_sent (q ∷ [])) ∙ first_alone q p)) (dice, gave, refl);
       ran = omega arith;
     }))

@@ -6,16 +6,16 @@ use Rattle.pac_names.specs.Names.{is_lookup_name, lookup_name_of}
 use Rattle.pac_names.specs.Quads.{quad_of}
 use Rattle.pac_ports.specs.Dice.{DiceTold, Gave}
 use Rattle.poll_log.specs.declared.terms.Terms.{Terms}
+use Rattle.poll_log.specs.Sendings.{AreTerms}
 use Rattle.poll_log.specs.Turns.{turns_of, with_moves}
 use Rattle.poll_log.specs.Questions.{firsts, new_among}
 use Rattle.poll_log.specs.Told.{told}
 use Rattle.poll_log.specs.Jobs.{Job}
 use Rattle.stub_poller.specs.State.{StubState}
-use Rattle.stub_poller.specs.Ready.{AreTerms}
 use Rattle.pac_plan.specs.Plan.{Outside, unfinished}
 use Rattle.pac_plan.specs.Follows.{Follows}
 use Rattle.poll_loop.specs.Task.{IsSound, Task}
-use Rattle.poll_loop.specs.declared.looping.Asking.{Asking}
+use Rattle.poll_loop.specs.declared.looping.Upstream.{Upstream}
 use Rattle.poll_loop.proofs.Kept.{few_none, not_begun}
 use Rattle.poll_loop.proofs.Owing.{cut_begin}
 use Rattle.pac_ask.specs.Ask.{address_plan, ask_plan, name_plan, told_output}
@@ -25,30 +25,30 @@ use Rattle.pac_ask.specs.Talks.{talks}
 use Rattle.pac_ask.proofs.Begin.{sound}
 
 -- memory may run out before anything is done
-pub memory_first : (asking : Asking) (text : List ℕ) (o : Outside) → Follows talks (ask_plan asking text) o o None
-memory_first asking text o = by_quad (quad_of text)
+pub memory_first : (upstream : Upstream) (text : List ℕ) (o : Outside) → Follows talks (ask_plan upstream text) o o None
+memory_first upstream text o = by_quad (quad_of text)
   where
-    by_name : (name : Option (List ℕ)) → Follows talks (name_plan asking name) o o None
+    by_name : (name : Option (List ℕ)) → Follows talks (name_plan upstream name) o o None
     by_name None = (refl, tt)
-    by_name (Some name) = (unfinished, [], not_begun (talk_of asking.server asking.terms name) o, refl)
+    by_name (Some name) = (unfinished, [], not_begun (talk_of upstream name) o, refl)
 
-    by_quad : (quad : Option ℕ) → Follows talks (address_plan asking quad (lookup_name_of text)) o o None
+    by_quad : (quad : Option ℕ) → Follows talks (address_plan upstream quad (lookup_name_of text)) o o None
     by_quad None = by_name (lookup_name_of text)
     by_quad (Some address) = (refl, tt)
 
 -- memory ran out when a number had been drawn
-pub memory_drawn : (asking : Asking) (name : List ℕ) → AreTerms asking.terms → IsTrue (is_lookup_name name) → (o : Outside) (id : ℕ) (dice : Option DiceTold) → Gave o.dice id dice → Follows talks (name_plan asking (Some name)) o (record o { dice = dice }) None
+pub memory_drawn : (upstream : Upstream) (name : List ℕ) → AreTerms upstream.terms → IsTrue (is_lookup_name name) → (o : Outside) (id : ℕ) (dice : Option DiceTold) → Gave o.dice id dice → Follows talks (name_plan upstream (Some name)) o (record o { dice = dice }) None
 unfolding firsts new_among with_moves
-memory_drawn asking name terms named o id dice g =
-    let is_sound : IsSound (task_of asking.terms name) = sound asking.terms name terms named in (
+memory_drawn upstream name terms named o id dice g =
+    let is_sound : IsSound (task_of upstream.terms name) = sound upstream.terms name terms named in (
       unfinished,
       [],
       record {
         files = refl;
         clock = refl;
-        few = few_none asking.terms;
+        few = few_none upstream.terms;
         ends = inl (record {
-          cut = cut_begin asking.terms (task_of asking.terms name).jobs terms.waits terms.tried is_sound.named;
+          cut = cut_begin upstream.terms (task_of upstream.terms name).jobs terms.waits terms.tried is_sound.named;
           link = refl;
           drew = (id ∷ [], (dice, g, refl));
           ran = omega arith;

@@ -1,17 +1,19 @@
 -- One name after an event stands for the longer log.
-use Rattle.std.proofs.Common.{◌≡◌, ℕ, ◌+◌, ◌<◌, Bool, true, false, not, ◌||◌, Some, None, List, [], map, Option, refl, sym, ◌∙◌, ap, subst, ◌≤◌, arith}
+use Rattle.std.proofs.Common.{◌≡◌, ℕ, ◌+◌, Bool, true, false, not, ◌||◌, Some, None, List, [], map, Option, refl, sym, ◌∙◌, ap, subst, ◌≤◌, arith}
 use Rattle.pac_names.specs.declared.answer.Answer.{Answer}
 use Rattle.pac_ports.specs.Dice.{DiceTold}
-use Rattle.poll_log.specs.declared.question.Question.{Question}
+use Rattle.poll_log.specs.declared.sending.Sending.{Sending}
 use Rattle.poll_log.specs.declared.terms.Terms.{Terms}
-use Rattle.poll_log.specs.Turns.{Turns, Then, Event, Given, Tick}
+use Rattle.poll_log.specs.Turns.{Outgoing, Turns, Then, Event, Given, Tick}
 use Rattle.poll_log.specs.Beats.{is_beat}
-use Rattle.poll_log.specs.Questions.{octets_of, firsts, questions}
+use Rattle.poll_log.specs.Questions.{outgoing_of, firsts, questions}
 use Rattle.poll_log.specs.Jobs.{IsOwed, some_wait, waits_unless}
 use Rattle.poll_log.specs.Laws.{lacking_or}
 use Rattle.poll_log.specs.Moment.{dead_in}
-use Rattle.poll_log.specs.Told.{age, is_dead, limit, told}
+use Rattle.poll_log.specs.Sendings.{limit}
+use Rattle.poll_log.specs.Told.{age, is_dead, told}
 use Rattle.poll_log.proofs.Names.{true_false}
+use Rattle.stub_poller.proofs.Ages.{lasts}
 use Rattle.stub_poller.proofs.Driving.{driven_shows, driven_terms}
 use Rattle.std.specs.Prelude.{is_some, if◌then◌else◌}
 use Rattle.stub_poller.specs.State.{StubState, beaten, given, is_dead_in, resent}
@@ -25,11 +27,8 @@ use Rattle.pac_ask.specs.OneName.{StandsFor, hearing}
 use Rattle.pac_ask.specs.declared.one_name.OneName.{OneName}
 use Rattle.pac_ask.proofs.Asked.{again_at, flying_on, heard, heard_is_told, none_drawn, now, owed, still_asked}
 
-lasting : (t : Terms) → 0 < t.wait → 0 < t.tries → 0 < limit t
-lasting t w r = grind (arith)
-
 module _ (name : List ℕ) (answer : Option Answer) (t : Terms) (stub : StubState) (n : ℕ) (task : Task) (h : Turns) (s : Stands name answer t stub n task h) (e : Event) (dice : Option DiceTold) (runs : ℕ) where
-  module _ (b : Bool) (beat : b ≡ is_beat h e) (n' : ℕ) (counts : (sent : List (List ℕ)) → HasCounted n' (Then h e sent)) where
+  module _ (b : Bool) (beat : b ≡ is_beat h e) (n' : ℕ) (counts : (sent : List Outgoing) → HasCounted n' (Then h e sent)) where
     whole : Stepped (λ turns. Stands name (heard e stub answer) t (beaten_if b (receiving e stub)) n' task turns) task h e (now t name s.ranges.waits s.ranges.tried h s.asked s.sends e) dice dice runs runs
     whole =
         let w = s.ranges.waits in
@@ -51,10 +50,10 @@ module _ (name : List ℕ) (answer : Option Answer) (t : Terms) (stub : StubStat
           ran = subst (λ (x : Task). runs + x.runs h ≡ runs + x.runs (Then h e out)) (sym s.same) refl;
         }
 
-    pub stepped : (answer' : Option Answer) (stub' : StubState) (sent : List Question) → answer' ≡ heard e stub answer → stub' ≡ beaten_if b (receiving e stub) → sent ≡ again_at b e stub → Stepped (λ turns. Stands name answer' t stub' n' task turns) task h e (map octets_of sent) dice dice runs runs
+    pub stepped : (answer' : Option Answer) (stub' : StubState) (sent : List Sending) → answer' ≡ heard e stub answer → stub' ≡ beaten_if b (receiving e stub) → sent ≡ again_at b e stub → Stepped (λ turns. Stands name answer' t stub' n' task turns) task h e (map outgoing_of sent) dice dice runs runs
     stepped answer' stub' sent ea es eq =
         let here : sent ≡ again_at (is_beat h e) e (driven t h) = eq ∙ ap (λ b. again_at b e stub) beat ∙ ap (again_at (is_beat h e) e) s.flying in
-        subst (λ out. Stepped (λ turns. Stands name answer' t stub' n' task turns) task h e out dice dice runs runs) (ap (map octets_of) (sym here))
+        subst (λ out. Stepped (λ turns. Stands name answer' t stub' n' task turns) task h e out dice dice runs runs) (ap (map outgoing_of) (sym here))
         (subst (λ a. Stepped (λ turns. Stands name a t stub' n' task turns) task h e (now t name s.ranges.waits s.ranges.tried h s.asked s.sends e) dice dice runs runs) (sym ea)
         (subst (λ x. Stepped (λ turns. Stands name (heard e stub answer) t x n' task turns) task h e (now t name s.ranges.waits s.ranges.tried h s.asked s.sends e) dice dice runs runs) (sym es) whole))
 
@@ -71,7 +70,7 @@ module _ (name : List ℕ) (answer : Option Answer) (t : Terms) (stub : StubStat
   unfolding is_dead dead_in
   dead_here =
       ap (is_dead_in name) s.flying
-      ∙ (driven_shows t h (lasting t s.ranges.waits s.ranges.tried)).dying name
+      ∙ (driven_shows t h (lasts t s.ranges.waits s.ranges.tried)).dying name
       ∙ ap (λ x. dead_in (limit x) (told t h) (age h) (firsts h) name) (driven_terms t h)
 
   waits_here : (m : Option Answer) → told t h name ≡ m → some_wait task.terms task.jobs h ≡ (waits_unless (is_dead t h) (lacking_or name m None) || false)
@@ -96,7 +95,7 @@ module _ (name : List ℕ) (answer : Option Answer) (t : Terms) (stub : StubStat
       go (Some x) k e = true_false e
 
 -- The same of the code's own record.
-module _ (one heard' : OneName) (e : Event) (hears : heard' ≡ hearing e one) (task : Task) (h : Turns) (s : StandsFor one task h) (dice : Option DiceTold) (runs : ℕ) (b : Bool) (beat : b ≡ is_beat h e) (n' : ℕ) (counts : (sent : List (List ℕ)) → HasCounted n' (Then h e sent)) (one' : OneName) (sent : List Question) where
+module _ (one heard' : OneName) (e : Event) (hears : heard' ≡ hearing e one) (task : Task) (h : Turns) (s : StandsFor one task h) (dice : Option DiceTold) (runs : ℕ) (b : Bool) (beat : b ≡ is_beat h e) (n' : ℕ) (counts : (sent : List Outgoing) → HasCounted n' (Then h e sent)) (one' : OneName) (sent : List Sending) where
   -- with what the event left of it
   abbrev Left : OneName → Type 0
   Left x = one' ≡ record x { beats = n'; stub = beaten_if b x.stub }
@@ -104,27 +103,27 @@ module _ (one heard' : OneName) (e : Event) (hears : heard' ≡ hearing e one) (
   abbrev Sent : OneName → Type 0
   Sent x = sent ≡ (if b then resent x.stub else [])
 
-  turned : (e' : Event) → e ≡ e' → Left (hearing e' one) → Sent (hearing e' one) → Stepped (StandsFor one' task) task h e (map octets_of sent) dice dice runs runs
+  turned : (e' : Event) → e ≡ e' → Left (hearing e' one) → Sent (hearing e' one) → Stepped (StandsFor one' task) task h e (map outgoing_of sent) dice dice runs runs
   turned (Given d) k f q =
-      subst (λ x. Stepped (StandsFor x task) task h e (map octets_of sent) dice dice runs runs) (sym f)
+      subst (λ x. Stepped (StandsFor x task) task h e (map outgoing_of sent) dice dice runs runs) (sym f)
       (stepped one.name one.answer one.terms one.stub one.beats task h s e dice runs b beat n' counts _ _ sent (ap (λ x. heard x one.stub one.answer) (sym k)) (ap (λ x. beaten_if b (receiving x one.stub)) (sym k)) (q ∙ again b ∙ ap (λ x. again_at b x one.stub) (sym k)))
     where
       again : (c : Bool) → (if c then resent (given d one.stub) else []) ≡ again_at c (Given d) one.stub
       again true = refl
       again false = refl
   turned Tick k f q =
-      subst (λ x. Stepped (StandsFor x task) task h e (map octets_of sent) dice dice runs runs) (sym f)
+      subst (λ x. Stepped (StandsFor x task) task h e (map outgoing_of sent) dice dice runs runs) (sym f)
       (stepped one.name one.answer one.terms one.stub one.beats task h s e dice runs b beat n' counts _ _ sent (ap (λ x. heard x one.stub one.answer) (sym k)) (ap (λ x. beaten_if b (receiving x one.stub)) (sym k)) (q ∙ again b ∙ ap (λ x. again_at b x one.stub) (sym k)))
     where
       again : (c : Bool) → (if c then resent one.stub else []) ≡ again_at c Tick one.stub
       again true = refl
       again false = refl
 
-  pub turn : Left heard' → Sent heard' → Stepped (StandsFor one' task) task h e (map octets_of sent) dice dice runs runs
+  pub turn : Left heard' → Sent heard' → Stepped (StandsFor one' task) task h e (map outgoing_of sent) dice dice runs runs
   turn f q = turned e refl (subst Left hears f) (subst Sent hears q)
 
 -- The same from call to call: a beat, and no beat.
-module _ (one heard' : OneName) (e : Event) (hears : heard' ≡ hearing e one) (b : Bool) (n' : ℕ) (tests : (turns : Turns) → HasCounted heard'.beats turns → b ≡ is_beat turns e) (counts : (turns : Turns) (sent : List (List ℕ)) → HasCounted heard'.beats turns → HasCounted n' (Then turns e sent)) (task : Task) (h : Turns) (s : StandsFor one task h) (dice : Option DiceTold) (runs : ℕ) where
+module _ (one heard' : OneName) (e : Event) (hears : heard' ≡ hearing e one) (b : Bool) (n' : ℕ) (tests : (turns : Turns) → HasCounted heard'.beats turns → b ≡ is_beat turns e) (counts : (turns : Turns) (sent : List Outgoing) → HasCounted heard'.beats turns → HasCounted n' (Then turns e sent)) (task : Task) (h : Turns) (s : StandsFor one task h) (dice : Option DiceTold) (runs : ℕ) where
   kept : (e : Event) → (hearing e one).beats ≡ one.beats
   kept (Given d) = refl
   kept Tick = refl
@@ -132,8 +131,8 @@ module _ (one heard' : OneName) (e : Event) (hears : heard' ≡ hearing e one) (
   here : HasCounted heard'.beats h
   here = ap (λ (x : OneName). x.beats) hears ∙ kept e ∙ s.beating
 
-  pub again_turn : b ≡ true → (one' : OneName) (sent : List Question) → one' ≡ record heard' { beats = n'; stub = beaten heard'.stub } → sent ≡ resent heard'.stub → Stepped (StandsFor one' task) task h e (map octets_of sent) dice dice runs runs
+  pub again_turn : b ≡ true → (one' : OneName) (sent : List Sending) → one' ≡ record heard' { beats = n'; stub = beaten heard'.stub } → sent ≡ resent heard'.stub → Stepped (StandsFor one' task) task h e (map outgoing_of sent) dice dice runs runs
   again_turn k one' sent f q = turn one heard' e hears task h s dice runs true (sym k ∙ tests h here) n' (λ sent. counts h sent here) one' sent f q
 
-  pub none_turn : b ≡ false → (one' : OneName) (sent : List Question) → one' ≡ record heard' { beats = n' } → sent ≡ [] → Stepped (StandsFor one' task) task h e (map octets_of sent) dice dice runs runs
+  pub none_turn : b ≡ false → (one' : OneName) (sent : List Sending) → one' ≡ record heard' { beats = n' } → sent ≡ [] → Stepped (StandsFor one' task) task h e (map outgoing_of sent) dice dice runs runs
   none_turn k one' sent f q = turn one heard' e hears task h s dice runs false (sym k ∙ tests h here) n' (λ sent. counts h sent here) one' sent f q

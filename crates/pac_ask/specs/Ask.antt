@@ -9,7 +9,7 @@ use Rattle.poll_log.specs.Told.{told}
 use Rattle.pac_plan.specs.Plan.{Output, Plan, line, say, talk}
 use Rattle.pac_plan.specs.declared.status.Status.TheVariants as status
 use Rattle.poll_loop.specs.Task.{Talk}
-use Rattle.poll_loop.specs.declared.looping.Asking.{Asking}
+use Rattle.poll_loop.specs.declared.looping.Upstream.{Upstream}
 use Rattle.pac_ask.specs.Task.{talk_of}
 
 abbrev pub answered : Answer → Output
@@ -22,15 +22,15 @@ told_output name (Some told) = answered told
 told_output name None = record { status = status.Unanswered; text = line (codes "unanswered " ++ name) }
 
 -- asks for the name, if there is one, and else nobody
-abbrev pub name_plan : Asking → Option (List ℕ) → Plan Talk
-name_plan asking None = say (answered answer.NoAddress)
-name_plan asking (Some name) = talk (talk_of asking.server asking.terms name) (λ log. told_output name (told asking.terms (turns_of log) name))
+abbrev pub name_plan : Upstream → Option (List ℕ) → Plan Talk
+name_plan upstream None = say (answered answer.NoAddress)
+name_plan upstream (Some name) = talk (talk_of upstream name) (λ log. told_output name (told upstream.terms (turns_of log) name))
 
 -- an address already needs nobody
-abbrev pub address_plan : Asking → Option ℕ → Option (List ℕ) → Plan Talk
-address_plan asking (Some address) name = say (answered (answer.Address address))
-address_plan asking None name = name_plan asking name
+abbrev pub address_plan : Upstream → Option ℕ → Option (List ℕ) → Plan Talk
+address_plan upstream (Some address) name = say (answered (answer.Address address))
+address_plan upstream None name = name_plan upstream name
 
 -- a dotted quad is an address already; four groups of digits that are none, and what is no lookup name, have no address
-abbrev pub ask_plan : Asking → List ℕ → Plan Talk
-ask_plan asking text = address_plan asking (quad_of text) (lookup_name_of text)
+abbrev pub ask_plan : Upstream → List ℕ → Plan Talk
+ask_plan upstream text = address_plan upstream (quad_of text) (lookup_name_of text)

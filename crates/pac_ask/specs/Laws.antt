@@ -2,26 +2,26 @@
 use Rattle.std.specs.Prelude.{◌≡◌, ℕ, List, IsTrue}
 use Rattle.pac_names.specs.Names.{is_lookup_name}
 use Rattle.pac_ports.specs.declared.link.Move.{Move}
+use Rattle.poll_log.specs.Sendings.{AreTerms}
 use Rattle.poll_log.specs.Turns.{turns_of}
 use Rattle.poll_log.specs.Told.{told}
 use Rattle.poll_log.specs.Jobs.{IsPolled}
 use Rattle.poll_log.specs.Laws.{IsAllTold}
-use Rattle.stub_poller.specs.Ready.{AreTerms}
 use Rattle.pac_plan.specs.declared.status.Status.TheVariants as status
 use Rattle.poll_loop.specs.Task.{IsSound}
-use Rattle.poll_loop.specs.declared.looping.Asking.{Asking}
+use Rattle.poll_loop.specs.declared.looping.Upstream.{Upstream}
 use Rattle.pac_ask.specs.Ask.{told_output}
 use Rattle.pac_ask.specs.Task.{talk_of}
 
 -- What is polled for is sound: what waits lacks one lookup name alone, and obeys the extension law.
 abbrev pub AsksAreSound : Type 0
 AsksAreSound =
-    (asking : Asking) (name : List ℕ) → AreTerms asking.terms → IsTrue (is_lookup_name name)
-    → IsSound (talk_of asking.server asking.terms name).task
+    (upstream : Upstream) (name : List ℕ) → AreTerms upstream.terms → IsTrue (is_lookup_name name)
+    → IsSound (talk_of upstream name).task
 
 -- Where the log is polled and each name that was sent is told, the name is answered.
 abbrev pub ToldIsAnswered : Type 0
 ToldIsAnswered =
-    (asking : Asking) (name : List ℕ) (log : List Move) → IsPolled asking.terms (talk_of asking.server asking.terms name).task.jobs (turns_of log)
-    → IsAllTold asking.terms (turns_of log)
-    → (told_output name (told asking.terms (turns_of log) name)).status ≡ status.Unanswered → ⊥
+    (upstream : Upstream) (name : List ℕ) (log : List Move) → IsPolled upstream.terms (talk_of upstream name).task.jobs (turns_of log)
+    → IsAllTold upstream.terms (turns_of log)
+    → (told_output name (told upstream.terms (turns_of log) name)).status ≡ status.Unanswered → ⊥

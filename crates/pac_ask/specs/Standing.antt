@@ -3,12 +3,12 @@ use Rattle.std.specs.Prelude.{◌≡◌, ℕ, IsTrue, List, [], ◌∷◌, Optio
 use Rattle.pac_names.specs.declared.answer.Answer.{Answer}
 use Rattle.pac_names.specs.Names.{is_lookup_name}
 use Rattle.poll_log.specs.declared.terms.Terms.{Terms}
+use Rattle.poll_log.specs.Sendings.{AreTerms}
 use Rattle.poll_log.specs.Turns.{Turns}
 use Rattle.poll_log.specs.Questions.{firsts, names_of}
 use Rattle.poll_log.specs.Told.{told}
 use Rattle.poll_log.specs.Jobs.{SendsOwed}
 use Rattle.stub_poller.specs.State.{StubState}
-use Rattle.stub_poller.specs.Ready.{AreTerms}
 use Rattle.stub_poller.specs.Driven.{driven}
 use Rattle.poll_loop.specs.Counting.{HasCounted}
 use Rattle.poll_loop.specs.Task.{Task}

@@ -1,10 +1,10 @@
 // `ask`: the address of one name.
 ghost use Rattle.std.specs.Prelude.{◌≡◌, None, Some};
 ghost use Rattle.utf16_text.specs.Decode.{utf16_units};
+ghost use Rattle.poll_log.specs.Sendings.{AreTerms};
 ghost use Rattle.pac_plan.specs.Plan.{Outside, talk};
 ghost use Rattle.pac_plan.specs.Follows.{Follows, IsUnlessMemory};
 ghost use Rattle.pac_plan.specs.OutputView.{made};
-ghost use Rattle.stub_poller.specs.Ready.{AreTerms};
 ghost use Rattle.pac_ask.specs.Ask as plan;
 ghost use Rattle.pac_ask.specs.Talks.{talks};
 
@@ -12,7 +12,7 @@ use crate::one_name::OneName;
 use pac_names::{Answer, LookupName, lookup_name, quad, quad_text};
 use pac_plan::{Output, Status, line};
 use pac_ports::{Dice, Link};
-use poll_loop::{Asking, Stop, poll};
+use poll_loop::{PollError, Upstream, poll};
 use std::alloc::Global;
 use std::sync::ledger::Ledger;
 use step_counter::Steps;
@@ -22,13 +22,13 @@ use utf16_text::{Memory, Text};
 pub fn ask<N: Link, D: Dice, L: Ledger>(
     alloc: Global,
     word: &str,
-    asking: Asking,
+    upstream: Upstream,
     link: &mut N,
     dice: &mut D,
     runs: &mut Steps<L>,
 ) -> Result<Output, Memory>
-    requires { AreTerms asking.terms }
-    ensures { (o : Outside) → Follows talks (plan.ask_plan asking (utf16_units word.now))
+    requires { AreTerms upstream.terms }
+    ensures { (o : Outside) → Follows talks (plan.ask_plan upstream (utf16_units word.now))
         (record o { link = N.state link.old; dice = D.told dice.old; runs = runs.old })
         (record o { link = N.state link.new; dice = D.told dice.new; runs = runs.new }) (made result) }
 {
@@ -39,7 +39,7 @@ pub fn ask<N: Link, D: Dice, L: Ledger>(
         return answered(alloc, Answer::Address(address));
     }
     match lookup_name(&text) {
-        Some(name) => ask_name(alloc, name, asking, link, dice, runs),
+        Some(name) => ask_name(alloc, name, upstream, link, dice, runs),
         None => answered(alloc, Answer::NoAddress),
     }
 }
@@ -48,25 +48,25 @@ pub fn ask<N: Link, D: Dice, L: Ledger>(
 fn ask_name<N: Link, D: Dice, L: Ledger>(
     alloc: Global,
     name: LookupName,
-    asking: Asking,
+    upstream: Upstream,
     link: &mut N,
     dice: &mut D,
     runs: &mut Steps<L>,
 ) -> Result<Output, Memory>
-    requires { AreTerms asking.terms }
-    ensures { (o : Outside) → Follows talks (plan.name_plan asking (Some name))
+    requires { AreTerms upstream.terms }
+    ensures { (o : Outside) → Follows talks (plan.name_plan upstream (Some name))
         (record o { link = N.state link.old; dice = D.told dice.old; runs = runs.old })
         (record o { link = N.state link.new; dice = D.told dice.new; runs = runs.new }) (made result) }
 {
     let id = dice.id();
-    let Ok(begun) = OneName::start(alloc, name, asking.terms, id) else {
+    let Ok(begun) = OneName::start(alloc, name, upstream.terms, id) else {
         return Err(Memory);
     };
-    let (mut one, question) = begun;
-    match poll(alloc, &mut one, &[question], asking, link, dice, runs) {
+    let (mut one, first) = begun;
+    match poll(alloc, &mut one, &[first], upstream, link, dice, runs) {
         Ok(()) => told(alloc, &one.name, one.answer),
-        Err(Stop::Link) => line(alloc, Status::LinkFault, "fault link", "", ""),
-        Err(Stop::Memory) => Err(Memory),
+        Err(PollError::Link) => line(alloc, Status::LinkFault, "fault link", "", ""),
+        Err(PollError::Memory) => Err(Memory),
     }
 }
 

@@ -1,4 +1,4 @@
-//! `ask`: the address of one name, from a server over a link.
+//! `ask`: the address of one name, from two servers over a link.
 //!
 //! `specs/Ask.antt` is its plan. The loop is that of poll_loop, driven by a stub of stub_poller with one question.
 #![tactic(auto)]

@@ -1,15 +1,15 @@
 // One name that is waited for.
 ghost use Rattle.std.specs.Prelude.{◌≡◌, IfOk, IsTrue, OnErr, OnOk};
 ghost use Rattle.pac_names.specs.Names.{is_lookup_name};
-ghost use Rattle.poll_log.specs.Questions.{IsQuestion};
+ghost use Rattle.poll_log.specs.Questions.{IsQuestion, first_sending};
+ghost use Rattle.poll_log.specs.Sendings.{AreTerms};
 ghost use Rattle.poll_loop.specs.Events.{event_of};
 ghost use Rattle.stub_poller.specs.State.{beaten, resent};
-ghost use Rattle.stub_poller.specs.Ready.{AreTerms};
 ghost use Rattle.pac_ask.specs.OneName.{hearing, new_one, received};
 
 use pac_names::{Answer, LookupName};
 use pac_ports::Dice;
-use poll_log::{Question, Terms};
+use poll_log::{Sending, Terms};
 use poll_loop::{BeatCounter, Event, Poller};
 use std::alloc::Global;
 use std::sync::ledger::Ledger;
@@ -28,17 +28,17 @@ pub(crate) struct OneName {
 }
 
 impl OneName {
-    /// Waits for the name, and gives the question that is to be sent first.
+    /// Waits for the name, and gives the first sending of its question.
     pub(crate) fn start(
         alloc: Global,
         name: LookupName,
         terms: Terms,
         id: u16,
-    ) -> Result<(OneName, Question), Memory>
+    ) -> Result<(OneName, Sending), Memory>
         requires terms { AreTerms terms }
         ensures one { IfOk result (λ begun. begun.0 ≡ new_one terms (record { id = id; name = name })) }
-        ensures question { IfOk result (λ begun. begun.1 ≡ record { id = id; name = name }) }
-        ensures proper { IfOk result (λ begun. IsQuestion begun.1) }
+        ensures sending { IfOk result (λ begun. begun.1 ≡ first_sending (record { id = id; name = name })) }
+        ensures proper { IfOk result (λ begun. IsQuestion begun.1.question) }
         ensures named { OnErr result (IsTrue (is_lookup_name name)) }
     {
         let mut stub = Stub::new(alloc, terms.wait, terms.tries);
@@ -51,7 +51,7 @@ impl OneName {
             stub,
             beats,
         };
-        Ok((one, question))
+        Ok((one, Sending::first(question)))
     }
 
     // Takes the answer that the datagram gives, where it gives one.
@@ -73,23 +73,13 @@ impl OneName {
         }
     }
 
-    // A beat: what is to be sent again.
-    fn beat(&mut self, alloc: Global) -> Result<Vec<Question>, Memory>
+    // A beat: what is sent again.
+    fn beat(&mut self, alloc: Global) -> Result<Vec<Sending>, Memory>
         ensures again { IfOk result (λ again. again.items ≡ resent self.old.stub) }
         ensures kept { OnOk result (self.new ≡ record self.old { stub = beaten self.old.stub }) }
     {
-        copies(alloc, &self.stub.on_beat().resend)
+        self.stub.on_beat().resends(alloc)
     }
-}
-
-fn copies(alloc: Global, questions: &[Question]) -> Result<Vec<Question>, Memory>
-    ensures { IfOk result (λ copies. copies.items ≡ questions.now) }
-{
-    let mut copies = Vec::new(alloc);
-    for question in questions {
-        copies.push(question.copy())?;
-    }
-    Ok(copies)
 }
 
 impl Poller for OneName {
@@ -111,7 +101,7 @@ impl Poller for OneName {
         event: Event<'_>,
         _dice: &mut D,
         _runs: &mut Steps<L>,
-    ) -> Result<Vec<Question>, Memory> {
+    ) -> Result<Vec<Sending>, Memory> {
         self.hear(event);
         if !self.beats.count(event) {
             return Ok(Vec::new(alloc));

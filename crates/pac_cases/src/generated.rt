@@ -9,7 +9,7 @@ use case_rows::written_text;
 use dns_message::{read_reply, write_query};
 use pac_generate::{Generated, KnownAnswers, MapLink, Summary, generate, kinds_of, summary_text};
 use pac_names::{Answer, LookupName, quad_text};
-use pac_ports::{Got, Link};
+use pac_ports::{Got, Link, Which};
 use proxy_list::{ProxyKind, parse_entry};
 use std::alloc::Global;
 use std::marker::Brand;
@@ -67,7 +67,8 @@ fn written(alloc: Global, answer: Option<Answer>) -> Result<String> {
     })
 }
 
-/// What a link with their map replies to questions for some names, in the order of asking, and what comes behind.
+/// What a link with their map replies to questions for some names, which go to its servers in turn, in the order of
+/// asking, and what comes behind.
 pub(crate) fn replies(alloc: Global, fields: &[&str]) -> Result<String> {
     let [seed, sites, names @ ..] = fields else {
         bail!("a seed, a number of sites and names");
@@ -80,8 +81,13 @@ fn replied<K: KnownAnswers>(alloc: Global, known: &AnswerTable, names: &[&str]) 
     requires { known.now ≡ K.answers }
 {
     let mut link = MapLink::<K>::new(alloc, known)?;
-    for name in names {
-        ask(&mut link, name)?;
+    for (place, name) in names.iter().enumerate() {
+        let to = if place % 2 == 0 {
+            Which::First
+        } else {
+            Which::Second
+        };
+        ask(&mut link, to, name)?;
     }
     let mut told = String::new(alloc);
     for name in names {
@@ -98,11 +104,11 @@ fn replied<K: KnownAnswers>(alloc: Global, known: &AnswerTable, names: &[&str]) 
 /// The number of each question.
 const NUMBER: u16 = 7;
 
-fn ask<N: Link>(link: &mut N, name: &str) -> Result<()> {
+fn ask<N: Link>(link: &mut N, to: Which, name: &str) -> Result<()> {
     let name = LookupName::from_bytes(name.as_bytes()).context("a lookup name")?;
     let mut buffer = [0; 512];
     let length = write_query(&mut buffer, NUMBER, &name);
-    match link.send(&buffer[..length]) {
+    match link.send(to, &buffer[..length]) {
         Ok(()) => Ok(()),
         Err(_) => bail!("the link failed"),
     }

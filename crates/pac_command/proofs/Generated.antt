@@ -11,12 +11,11 @@ use Rattle.js_host.specs.Answers.{AnswerMap}
 use Rattle.js_evaluation.specs.Evaluation.{Entry}
 use Rattle.js_interp.specs.declared.entry.Entry as code
 use Rattle.js_interp.specs.Answers.{entry_of}
-use Rattle.js_evaluation.specs.Evaluation.{run_by_names}
 use Rattle.pac_generate.specs.Generated.{generated, script, site_line, site_lines}
 use Rattle.pac_plan.specs.Plan as plans
 use Rattle.pac_plan.specs.Plan.{Outside, Plan}
 use Rattle.pac_plan.specs.Follows.{Follows, IsUnlessMemory}
-use Rattle.poll_loop.specs.declared.looping.Asking.{Asking}
+use Rattle.poll_loop.specs.declared.looping.Upstream.{Upstream}
 use Rattle.memory_talk.specs.Talks.{MemoryTalk}
 use Rattle.memory_talk.proofs.Answering.{answering}
 use Rattle.url_runs.specs.Runs.{ScriptRuns}
@@ -26,7 +25,7 @@ use Rattle.pac_command.specs.declared.given.Given.{Given}
 use Rattle.pac_command.specs.Plans.{if_read}
 use Rattle.pac_command.specs.Scripts.{refused_script}
 use Rattle.pac_command.specs.Urls.{entries_for}
-use Rattle.pac_command.specs.Generate.{generate_plan, generated_batch, usual_asking, usual_given}
+use Rattle.pac_command.specs.Generate.{generate_plan, generated_batch, sum_generated}
 
 -- ---- what is generated is small
 
@@ -64,8 +63,8 @@ few_entries given seed sites entries low same =
 -- ---- the plan
 
 module _ (seed sites : ℕ) where
-  abbrev pub summing : List StatementTree → Plan MemoryTalk
-  summing body = sum_plan (record { seed = seed; sites = sites }) (generated seed sites).map usual_asking (run_by_names body) (entries_for usual_given (generated_batch seed sites))
+  abbrev summing : List StatementTree → Plan MemoryTalk
+  summing = sum_generated (record { seed = seed; sites = sites })
 
   -- the script is read
   pub sums : (body : List StatementTree) (old new : Outside) (made : Option plans.Output) → script_of_text (generated seed sites).script ≡ Ok body
@@ -80,11 +79,11 @@ module _ (seed sites : ℕ) where
       subst (λ (r : Result (List StatementTree) Refusal). Follows answering (if_read r (λ refusal. plans.say (refused_script refusal)) summing) o o made) (sym read) (refl, h)
 
 -- what is summed up for equals
-pub summed_is : (from : Seed) (map other : AnswerMap) (asking usual : Asking) (program script : ScriptRuns) (had asked : List Entry) (old new : Outside) (made : Option plans.Output)
-    → map ≡ other → asking ≡ usual → script ≡ program → had ≡ asked
-    → Follows answering (sum_plan from map asking program had) old new made → Follows answering (sum_plan from other usual script asked) old new made
-summed_is from map other asking usual program script had asked old new made m a p e h =
+pub summed_is : (from : Seed) (map other : AnswerMap) (upstream usual : Upstream) (program script : ScriptRuns) (had asked : List Entry) (old new : Outside) (made : Option plans.Output)
+    → map ≡ other → upstream ≡ usual → script ≡ program → had ≡ asked
+    → Follows answering (sum_plan from map upstream program had) old new made → Follows answering (sum_plan from other usual script asked) old new made
+summed_is from map other upstream usual program script had asked old new made m a p e h =
     subst (λ (x : AnswerMap). Follows answering (sum_plan from x usual script asked) old new made) m
-    (subst (λ (x : Asking). Follows answering (sum_plan from map x script asked) old new made) a
-    (subst (λ (x : ScriptRuns). Follows answering (sum_plan from map asking x asked) old new made) (sym p)
-    (subst (λ (x : List Entry). Follows answering (sum_plan from map asking program x) old new made) e h)))
+    (subst (λ (x : Upstream). Follows answering (sum_plan from map x script asked) old new made) a
+    (subst (λ (x : ScriptRuns). Follows answering (sum_plan from map upstream x asked) old new made) (sym p)
+    (subst (λ (x : List Entry). Follows answering (sum_plan from map upstream program x) old new made) e h)))

@@ -9,11 +9,11 @@ use Rattle.pac_plan.proofs.Served as served
 use Rattle.pac_ports.specs.Sink.{SinkState}
 use Rattle.pac_ask.specs.Talks.{talks}
 use Rattle.memory_talk.proofs.Answering.{answering}
-use Rattle.poll_loop.specs.declared.looping.Asking.{Asking}
+use Rattle.poll_loop.specs.declared.looping.Upstream.{Upstream}
 use Rattle.pac_words.specs.Commands.{Running}
 use Rattle.pac_command.specs.declared.given.Given.{Given}
 use Rattle.pac_command.specs.Plans.{CommandPlan, CommandProgram, Doing, over_link, in_memory, Follows, FollowsDoing, FollowsProgram, Serves}
-use Rattle.pac_command.specs.Begun.{IsMoment, begun, begun_at, given_at}
+use Rattle.pac_command.specs.Begun.{IsGiven, IsMoment, begun, begun_at, given_at}
 use Rattle.pac_command.specs.Commands.{usage}
 
 -- memory may run out before anything is done
@@ -46,13 +46,13 @@ begins_at None next moment clock old new made is follows =
     inl (moment, subst (λ (c : Option ClockTold). Follows (next moment) (with_clock old c) new made) is follows)
 
 -- so was the plan with what the runs are given
-pub begins : (running : Running) (next : Given → CommandPlan) (moment : ℤ) (given : Given) (clock : Option ClockTold) (old new : Outside) (made : Option Output)
-    → IsMoment running.now old.clock moment clock → given ≡ given_at running moment → Follows (next given) (with_clock old clock) new made → FollowsProgram (begun running next) old new made
-begins running next moment given clock old new made is same follows =
-    begins_at running.now (λ seconds. next (given_at running seconds)) moment clock old new made is
-    (subst (λ (g : Given). Follows (next g) (with_clock old clock) new made) same follows)
+pub begins : (running : Running) (next : Given → CommandPlan) (given : Given) (clock : Option ClockTold) (old new : Outside) (made : Option Output)
+    → IsGiven running old.clock given clock → Follows (next given) (with_clock old clock) new made → FollowsProgram (begun running next) old new made
+begins running next given clock old new made is follows =
+    begins_at running.now (λ seconds. next (given_at running seconds)) is.0 clock old new made is.1
+    (subst (λ (g : Given). Follows (next g) (with_clock old clock) new made) is.2 follows)
 
 -- who is asked is the same
-pub by_asking : (program : Asking → CommandProgram) (one other : Asking) (old new : Outside) (made : Option Output)
+pub by_upstream : (program : Upstream → CommandProgram) (one other : Upstream) (old new : Outside) (made : Option Output)
     → one ≡ other → FollowsProgram (program one) old new made → FollowsProgram (program other) old new made
-by_asking program one other old new made same h = subst (λ (a : Asking). FollowsProgram (program a) old new made) same h
+by_upstream program one other old new made same h = subst (λ (u : Upstream). FollowsProgram (program u) old new made) same h

@@ -7,18 +7,18 @@ use Rattle.std.specs.Str.{bytes_eq}
 use Rattle.std.specs.Str.Parse.{digits_value}
 use Rattle.batch_text.specs.declared.batch.TheConstants.{MOST_URLS}
 use Rattle.poll_log.specs.declared.terms.TheConstants.{MOST_TRIES, MOST_WAIT}
+use Rattle.poll_log.specs.Sendings.{AreTerms}
 use Rattle.pac_words.specs.declared.usual.TheConstants.{USUAL_WAIT, USUAL_TRIES}
 use Rattle.pac_words.specs.Commands.{Asked, Asking, Given, ask_of, check_of, generate_of, map_of, number_given, read_by, resolve_of, running_of, source_from}
 use Rattle.pac_words.specs.Commands as words
 use Rattle.pac_words.specs.Rules.{Table, Text, said_of, value_of}
 use Rattle.pac_words.specs.Tables.{resolve_table, map_table, check_table, ask_table, generate_table}
-use Rattle.pac_words.specs.Values.{between, is_number, number_in, number_or, server_or}
-use Rattle.stub_poller.specs.Ready.{AreTerms}
-use Rattle.pac_command.specs.Commands.{asking_of}
+use Rattle.pac_words.specs.Values.{between, is_number, number_in, number_or, servers_or}
+use Rattle.pac_command.specs.Commands.{upstream_of}
 use Rattle.pac_command.specs.Laws.{IsAskedWith, TermsAreRead}
 
 abbrev Keeps : Asked → Type 0
-Keeps asked = (how : Asking) → IsAskedWith how asked → AreTerms (asking_of how).terms
+Keeps asked = (how : Asking) → IsAskedWith how asked → AreTerms (upstream_of how).terms
 
 option_map_some : {A B P : Type 0} (f : A → B) (o : Option A) (y : B) → option_map f o ≡ Some y → ((x : A) → o ≡ Some x → f x ≡ y → P) → P
 option_map_some f None y e next = cc
@@ -42,18 +42,18 @@ bounds usual low high (Some text) m above below e = number_bounds low high text 
 
 -- ---- commands
 
-terms_given : (given : Given) (how : Asking) → words.asking_of given ≡ Some how → AreTerms (asking_of how).terms
+terms_given : (given : Given) (how : Asking) → words.asking_of given ≡ Some how → AreTerms (upstream_of how).terms
 terms_given given how e =
-    option_and_then_some _ (server_or (given (codes "server"))) how e (λ server _ e1.
+    option_and_then_some _ (servers_or (given (codes "server")) (given (codes "second"))) how e (λ servers _ e1.
     option_and_then_some _ (number_or USUAL_WAIT 1 MOST_WAIT (given (codes "wait"))) how e1 (λ wait of_wait e2.
     option_map_some _ (number_or USUAL_TRIES 1 MOST_TRIES (given (codes "tries"))) how e2 (λ tries of_tries same.
     let w = bounds USUAL_WAIT 1 MOST_WAIT (given (codes "wait")) wait (omega arith) (omega arith) of_wait in
     let t = bounds USUAL_TRIES 1 MOST_TRIES (given (codes "tries")) tries (omega arith) (omega arith) of_tries in
-    subst (λ h. AreTerms (asking_of h).terms) same (record { waits = omega (arith, w.0); wait = w.1; tried = omega (arith, t.0); tries = t.1 }))))
+    subst (λ h. AreTerms (upstream_of h).terms) same (record { waits = omega (arith, w.0); wait = w.1; tried = omega (arith, t.0); tries = t.1 }))))
 
 -- where what was read is what names are asked for with
-asks_so : (given : Given) (own how : Asking) → words.asking_of given ≡ Some own → how ≡ own → AreTerms (asking_of how).terms
-asks_so given own how of_own same = subst (λ h. AreTerms (asking_of h).terms) (sym same) (terms_given given own of_own)
+asks_so : (given : Given) (own how : Asking) → words.asking_of given ≡ Some own → how ≡ own → AreTerms (upstream_of how).terms
+asks_so given own how of_own same = subst (λ h. AreTerms (upstream_of h).terms) (sym same) (terms_given given own of_own)
 
 resolve_keeps : (given : Given) (asked : Asked) → resolve_of given ≡ Some asked → Keeps asked
 resolve_keeps given asked e =

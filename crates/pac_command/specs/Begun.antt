@@ -24,7 +24,13 @@ begun_at None next = timed next
 abbrev pub begun : Running → (Given → CommandPlan) → CommandProgram
 begun running next = begun_at running.now (λ seconds. next (given_at running seconds))
 
+-- ---- what the code has
+
 -- the moment is that of the words, or the clock gave it
 abbrev pub IsMoment : Option ℕ → Option ClockTold → ℤ → Option ClockTold → Type 0
 IsMoment (Some seconds) old moment new = (moment ≡ pos seconds) × (new ≡ old)
 IsMoment None old moment new = new ≡ with_moment moment old
+
+-- what each run is given where a command begins at such a moment
+abbrev pub IsGiven : Running → Option ClockTold → Given → Option ClockTold → Type 0
+IsGiven running old given new = (moment : ℤ) × IsMoment running.now old moment new × (given ≡ given_at running moment)

@@ -10,14 +10,14 @@ use Rattle.pac_generate.specs.Generated as generated
 use Rattle.pac_words.specs.Commands.{Asked, Asking, asking, command_of, resolving}
 use Rattle.pac_words.specs.Rules.{Text}
 use Rattle.pac_ports.specs.declared.link.Move.{Move}
+use Rattle.poll_log.specs.Sendings.{AreTerms}
 use Rattle.poll_log.specs.Turns.{turns_of}
 use Rattle.poll_loop.specs.Task.{Task}
 use Rattle.poll_loop.specs.Laws.{UnfinishedIsCut}
-use Rattle.stub_poller.specs.Ready.{AreTerms}
 use Rattle.url_runs.specs.Resolving.{Completion, urls_talk}
 use Rattle.url_runs.specs.Laws.{EachMapIsTaken, RunsAreFew, TasksAreSound, ToldAreAnswered}
-use Rattle.pac_command.specs.Commands.{asking_of}
-use Rattle.pac_command.specs.Generate.{generated_batch, usual_asking, usual_given}
+use Rattle.pac_command.specs.Commands.{upstream_of}
+use Rattle.pac_command.specs.Generate.{generated_batch, usual_upstream, usual_given}
 use Rattle.pac_command.specs.Urls.{entries_for}
 
 -- the generated script is read
@@ -34,12 +34,12 @@ IsAskedWith how _ = ⊥
 abbrev pub TermsAreRead : Type 0
 TermsAreRead =
     (ws : List Text) (asked : Asked) → command_of ws ≡ Some asked
-    → (how : Asking) → IsAskedWith how asked → AreTerms (asking_of how).terms
+    → (how : Asking) → IsAskedWith how asked → AreTerms (upstream_of how).terms
 
 -- what `generate` polls for with this script
 abbrev pub generate_task : ℕ → ℕ → List StatementTree → Task
 generate_task seed sites script =
-    (urls_talk usual_asking (run_by_names script) (entries_for usual_given (generated_batch seed sites))).task
+    (urls_talk usual_upstream (run_by_names script) (entries_for usual_given (generated_batch seed sites))).task
 
 -- its log: it is polled and answered from the generated map, and its first sends carry 0, 1, 2 and so on
 abbrev pub IsGeneratedLog : ℕ → ℕ → List StatementTree → List Move → Type 0

@@ -4,6 +4,7 @@ pub mod Scripts
 pub mod Names
 pub mod Begun
 pub mod Urls
+pub mod Work
 pub mod Check
 pub mod Generate
 pub mod Commands

@@ -1,9 +1,9 @@
 -- The first steps of commands, which hand something on or end the command.
 use Rattle.std.specs.Prelude.{List, Option, Some, None, Result, Ok, Err, Vec}
 use Rattle.std.specs.declared.alloc.Global.{Global}
+use Rattle.pac_ports.specs.Files.{FilesState}
 use Rattle.pac_plan.specs.Plan.{Output, Outside}
 use Rattle.pac_plan.specs.OutputView.{output_view}
-use Rattle.pac_plan.specs.declared.output.Output as declared
 use Rattle.pac_command.specs.declared.early.Early.{Early}
 use Rattle.pac_command.specs.declared.early.Early.TheVariants as early
 use Rattle.pac_command.specs.Plans.{CommandPlan, Follows}
@@ -13,17 +13,25 @@ abbrev pub said : Early → Option Output
 said (early.Said output) = Some (output_view output)
 said early.Memory = None
 
-abbrev pub said_by : Result declared.Output Early → Option Output
-said_by (Ok output) = Some (output_view output)
-said_by (Err early) = said early
+abbrev pub with_files : Outside → FilesState → Outside
+with_files o files = record o { files = files }
 
--- A step of a plan, before what comes next. Where it hands something on, what follows the rest of the plan from there follows
--- the whole of it. Else the command has ended with it, whatever would have come next.
-abbrev pub IsStep : {A : Type 0} → ((A → CommandPlan) → CommandPlan) → Outside → Result A Early → Outside → Type 0
-IsStep {A} step old (Ok a) mid =
-    (next : A → CommandPlan) (new : Outside) (made : Option Output) → Follows (next a) mid new made → Follows (step next) old new made
-IsStep {A} step old (Err early) mid = (next : A → CommandPlan) → Follows (step next) old mid (said early)
+-- A step of a plan, before what comes next, which touches the files alone. Where it hands something on, what follows the rest
+-- of the plan from there follows the whole of it. Else the command has ended with it, whatever would have come next.
+abbrev pub IsStep : {A : Type 0} → ((A → CommandPlan) → CommandPlan) → FilesState → Result A Early → FilesState → Type 0
+IsStep {A} step files (Ok a) files' =
+    (o : Outside) (next : A → CommandPlan) (new : Outside) (made : Option Output)
+    → Follows (next a) (with_files o files') new made → Follows (step next) (with_files o files) new made
+IsStep {A} step files (Err early) files' =
+    (o : Outside) (next : A → CommandPlan) → Follows (step next) (with_files o files) (with_files o files') (said early)
+
+-- ---- what the code has
 
 abbrev pub items_of : {A E : Type 0} → Result (Vec A Global) E → Result (List A) E
 items_of (Ok items) = Ok items.items
 items_of (Err e) = Err e
+
+-- what is handed on, as it is seen
+abbrev pub ok_as : {A B E : Type 0} → (A → B) → Result A E → Result B E
+ok_as view (Ok a) = Ok (view a)
+ok_as view (Err e) = Err e

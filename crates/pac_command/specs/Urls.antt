@@ -1,15 +1,13 @@
 -- The batch that a command is for, and what it says where it isn't read. One URL is a batch of it alone.
-use Rattle.std.specs.Prelude.{ℕ, ℤ, List, [], ◌∷◌, codes, map, Result, Ok, Err}
+use Rattle.std.specs.Prelude.{ℕ, ℤ, List, [], ◌∷◌, codes}
 use Rattle.batch_text.specs.View.{Seen, view_of}
 use Rattle.batch_text.specs.declared.batch.BatchKind.{BatchKind}
 use Rattle.batch_text.specs.declared.batch.BatchKind.TheVariants as kind
-use Rattle.batch_text.specs.declared.batch.BatchLine.{BatchLine}
-use Rattle.batch_text.specs.Batch.{BatchEntry, Asks, batch_in, entry_seen}
+use Rattle.batch_text.specs.Batch.{BatchEntry, Asks, batch_in}
 use Rattle.js_evaluation.specs.Evaluation.{Entry}
 use Rattle.pac_clocks.specs.Clocks.{moments_at, nearest}
 use Rattle.pac_plan.specs.Plan.{Output, say, read}
 use Rattle.pac_words.specs.Commands.{Source, batch_file, one_url}
-use Rattle.pac_command.specs.declared.early.Early.{Early}
 use Rattle.pac_command.specs.declared.given.Given.{Given}
 use Rattle.pac_command.specs.Plans.{CommandPlan, if_read, if_there}
 use Rattle.pac_command.specs.Scripts.{refused, refused_line}
@@ -54,11 +52,6 @@ batch_then given bytes next =
 abbrev pub urls_from : Given → Source → (List BatchEntry → CommandPlan) → CommandPlan
 urls_from given (one_url url) next = url_then given url next
 urls_from given (batch_file file) next = read (codes "batch") file (λ bytes. batch_then given bytes next)
-
--- what the code has
-abbrev pub seen_batch : Result (List BatchLine) Early → Result (List BatchEntry) Early
-seen_batch (Ok batch) = Ok (map entry_seen batch)
-seen_batch (Err early) = Err early
 
 -- ---- the runs
 

@@ -3,11 +3,10 @@ ghost use Rattle.pac_plan.specs.Plan.{Outside};
 ghost use Rattle.pac_plan.specs.Follows.{IsUnlessMemory};
 ghost use Rattle.pac_plan.specs.OutputView.{made};
 ghost use Rattle.pac_command.specs.Plans.{Follows};
-ghost use Rattle.pac_command.specs.Steps.{said_by};
+ghost use Rattle.pac_command.specs.Steps.{with_files};
 ghost use Rattle.pac_command.specs.Check.{check_plan, printed};
 
 use crate::Status;
-use crate::early::Early;
 use crate::inputs::read_script_file;
 use js_printer::print;
 use js_tree::Script;
@@ -18,21 +17,12 @@ use utf16_text::Memory;
 
 /// Reads the script and prints it.
 pub(crate) fn check<F: Files>(alloc: Global, script: &str, files: &mut F) -> Result<Output, Memory>
-    ensures { (o : Outside) → Follows (check_plan script.now)
-        (record o { files = F.state files.old }) (record o { files = F.state files.new }) (made result) }
+    ensures { (o : Outside) → Follows (check_plan script.now) (with_files o (F.state files.old)) (with_files o (F.state files.new)) (made result) }
 {
-    match check_file(alloc, script, files) {
-        Ok(output) => Ok(output),
+    match read_script_file(alloc, script, files) {
+        Ok(script) => printed_script(alloc, &script),
         Err(early) => early.output(),
     }
-}
-
-fn check_file<F: Files>(alloc: Global, script: &str, files: &mut F) -> Result<Output, Early>
-    ensures { (o : Outside) → Follows (check_plan script.now)
-        (record o { files = F.state files.old }) (record o { files = F.state files.new }) (said_by result) }
-{
-    let script = read_script_file(alloc, script, files)?;
-    Ok(printed_script(alloc, &script)?)
 }
 
 fn printed_script(alloc: Global, script: &Script) -> Result<Output, Memory>

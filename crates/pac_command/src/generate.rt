@@ -1,16 +1,13 @@
 // `generate`: a large input from two numbers, resolved over a link in memory and summed up.
 ghost use Rattle.std.specs.Prelude.{◌≡◌, ◌≤◌};
-ghost use Rattle.js_evaluation.specs.Evaluation.{run_by_names};
 ghost use Rattle.pac_plan.specs.Plan.{Outside};
 ghost use Rattle.pac_plan.specs.Follows.{Follows};
 ghost use Rattle.pac_plan.specs.OutputView.{made};
-ghost use Rattle.stub_poller.specs.Ready.{AreTerms};
+ghost use Rattle.poll_log.specs.Sendings.{AreTerms};
 ghost use Rattle.memory_talk.proofs.Answering.{answering};
 ghost use Rattle.pac_generate.specs.Generated.{generated};
-ghost use Rattle.generated_runs.specs.Summing.{sum_plan};
 ghost use Rattle.pac_command.specs.Generate as plan;
 ghost use Rattle.pac_command.specs.Scripts.{WasRead};
-ghost use Rattle.pac_command.specs.Urls.{entries_for};
 
 use crate::given::Given;
 use crate::output::refused_script;
@@ -24,10 +21,10 @@ use pac_calendar::Zone;
 use pac_functions::PacSettings;
 use pac_generate::{Generated, MOMENT};
 use pac_plan::Output;
-use pac_ports::Server;
+use pac_ports::{Server, Servers};
 use pac_words::{Generating, LOCAL, USUAL_FUEL, USUAL_PORT, USUAL_TRIES, USUAL_WAIT};
 use poll_log::Terms;
-use poll_loop::Asking;
+use poll_loop::Upstream;
 use std::alloc::Global;
 use std::marker::Brand;
 use std::mem;
@@ -67,19 +64,18 @@ fn sum_script<L: Ledger>(
     requires few { from.sites ≤ MOST_URLS }
     requires input { input.now ≡ generated from.seed from.sites }
     requires read { WasRead script }
-    ensures { (o : Outside) → Follows answering (sum_plan from (generated from.seed from.sites).map plan.usual_asking (run_by_names script) (entries_for plan.usual_given (plan.generated_batch from.seed from.sites)))
-        (record o { runs = runs.old }) (record o { runs = runs.new }) (made result) }
+    ensures { (o : Outside) → Follows answering (plan.sum_generated from script) (record o { runs = runs.old }) (record o { runs = runs.new }) (made result) }
 {
     let entries = entries_for(alloc, &input.batch, &usual_given())?;
     let program = resolve_names(alloc, script)?;
     let network = Network {
         answers: &input.map,
-        asking: usual_asking(),
+        upstream: usual_upstream(),
     };
-    let output = sum_urls::<Brand, L>(alloc, from, &program, entries, network, runs)?;
+    let output = sum_urls::<Brand, L>(alloc, from, &program, entries, network, runs);
     // The process ends with its command, so the tree of a script isn't taken apart node by node.
     mem::forget(program);
-    Ok(output)
+    output
 }
 
 // What each run is given.
@@ -94,9 +90,9 @@ fn usual_given() -> Given
     }
 }
 
-// How names are asked for. The link has no server, so any serves.
-fn usual_asking() -> Asking
-    ensures same { result ≡ plan.usual_asking }
+// How names are asked for. The link has no servers, so any serve.
+fn usual_upstream() -> Upstream
+    ensures same { result ≡ plan.usual_upstream }
     ensures ready { AreTerms result.terms }
 {
     let server = Server {
@@ -107,5 +103,9 @@ fn usual_asking() -> Asking
         wait: USUAL_WAIT,
         tries: USUAL_TRIES,
     };
-    Asking { server, terms }
+    let servers = Servers {
+        first: server,
+        second: server,
+    };
+    Upstream { servers, terms }
 }

@@ -1,8 +1,8 @@
 // What the runs of a command are given.
-ghost use Rattle.std.specs.Prelude.{◌≡◌, ◌≤◌, ℤ};
+ghost use Rattle.std.specs.Prelude.{◌≤◌};
 ghost use Rattle.std.specs.Option.{ForSome};
 ghost use Rattle.pac_words.specs.Views.{running_view};
-ghost use Rattle.pac_command.specs.Begun.{IsMoment, given_at};
+ghost use Rattle.pac_command.specs.Begun.{IsGiven, IsMoment};
 ghost use Rattle.pac_calendar.specs.declared.showing.TheConstants.{LAST_MOMENT};
 
 use pac_calendar::Zone;
@@ -23,8 +23,7 @@ pub(crate) struct Given {
 
 /// What the words give to each run. The clock is asked where they don't say the moment.
 pub(crate) fn given_by<C: Clock>(running: &Running, clock: &mut C) -> Given
-    ensures { (seconds : ℤ) × IsMoment running.entry.now.now (C.told clock.old) seconds (C.told clock.new)
-        × (result ≡ given_at (running_view running.entry.now) seconds) }
+    ensures { IsGiven (running_view running.entry.now) (C.told clock.old) result (C.told clock.new) }
 {
     let settings = PacSettings {
         my_ip: running.my_ip,

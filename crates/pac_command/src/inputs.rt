@@ -1,7 +1,8 @@
 // What a command reads: a script, a file of names, and URLs.
 ghost use Rattle.std.specs.Prelude.{◌≡◌, ◌≤◌, length, IfOk};
 ghost use Rattle.utf16_text.specs.Decode.{decoded_units};
-ghost use Rattle.pac_plan.specs.Plan.{Outside, read};
+ghost use Rattle.pac_ports.specs.Files.{FilesState};
+ghost use Rattle.pac_plan.specs.Plan.{read};
 ghost use Rattle.pac_command.specs.Steps.{IsStep, items_of};
 ghost use Rattle.pac_command.specs.Scripts.{WasRead, script_from, script_then};
 ghost use Rattle.pac_command.specs.Names as spec;
@@ -27,8 +28,7 @@ pub(crate) fn read_file<F: Files>(
     name: &str,
     files: &mut F,
 ) -> Result<Vec<u8>, Early>
-    ensures step { (o : Outside) → IsStep (read kind.now name.now)
-        (record o { files = F.state files.old }) (items_of result) (record o { files = F.state files.new }) }
+    ensures step { IsStep (read kind.now name.now) (F.state files.old) (items_of result) (F.state files.new) }
     ensures within { IfOk result (λ bytes. length bytes.items ≤ LONGEST_FILE) }
 {
     match files.read_all(alloc, name, LONGEST_FILE) {
@@ -51,8 +51,7 @@ pub(crate) fn read_script_file<F: Files>(
     name: &str,
     files: &mut F,
 ) -> Result<Script, Early>
-    ensures step { (o : Outside) → IsStep (script_from name.now)
-        (record o { files = F.state files.old }) result (record o { files = F.state files.new }) }
+    ensures step { IsStep (script_from name.now) (F.state files.old) result (F.state files.new) }
     ensures read { IfOk result WasRead }
 {
     let bytes = read_file(alloc, "script", name, files)?;
@@ -62,7 +61,7 @@ pub(crate) fn read_script_file<F: Files>(
 /// The script that these bytes spell.
 fn script_in(alloc: Global, bytes: &[u8]) -> Result<Script, Early>
     requires { length bytes.now ≤ LONGEST_FILE }
-    ensures step { (o : Outside) → IsStep (script_then bytes.now) o result o }
+    ensures step { (files : FilesState) → IsStep (script_then bytes.now) files result files }
     ensures read { IfOk result WasRead }
 {
     let source = decoded(alloc, bytes)?;
@@ -91,8 +90,7 @@ pub(crate) fn read_names_file<F: Files>(
     name: &str,
     files: &mut F,
 ) -> Result<AnswerTable, Early>
-    ensures { (o : Outside) → IsStep (names_from name.now)
-        (record o { files = F.state files.old }) result (record o { files = F.state files.new }) }
+    ensures { IsStep (names_from name.now) (F.state files.old) result (F.state files.new) }
 {
     let bytes = read_file(alloc, "names", name, files)?;
     answers_in(alloc, &bytes)
@@ -101,7 +99,7 @@ pub(crate) fn read_names_file<F: Files>(
 /// The answers that these bytes tell.
 fn answers_in(alloc: Global, bytes: &[u8]) -> Result<AnswerTable, Early>
     requires { length bytes.now ≤ LONGEST_FILE }
-    ensures { (o : Outside) → IsStep (names_then bytes.now) o result o }
+    ensures { (files : FilesState) → IsStep (names_then bytes.now) files result files }
 {
     match read_names(alloc, bytes) {
         Ok(answers) => Ok(answers),

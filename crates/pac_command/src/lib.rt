@@ -11,11 +11,10 @@ mod early;
 mod generate;
 mod given;
 mod inputs;
-mod map;
 mod output;
-mod resolve;
 mod top;
 mod urls;
+mod work;
 
 pub use pac_plan::Status;
 pub use top::pac;

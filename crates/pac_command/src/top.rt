@@ -1,29 +1,30 @@
 // The top call.
 ghost use Rattle.std.specs.Prelude.{◌≡◌, Some, map, string_bytes};
-ghost use Rattle.pac_plan.specs.Plan.{Outside};
 ghost use Rattle.pac_plan.specs.Follows.{Gives, IsUnlessMemory};
-ghost use Rattle.pac_plan.specs.OutputView.{output_view, made};
+ghost use Rattle.pac_plan.specs.OutputView.{made};
 ghost use Rattle.pac_words.specs.Commands.{command_of};
 ghost use Rattle.pac_words.specs.Views.{asking_view, command_view};
-ghost use Rattle.stub_poller.specs.Ready.{AreTerms};
+ghost use Rattle.poll_log.specs.Sendings.{AreTerms};
 ghost use Rattle.pac_command.specs.Plans.{FollowsDoing, Serves};
 ghost use Rattle.url_runs.specs.Resolving.{Completion};
-ghost use Rattle.pac_command.specs.Commands.{asking_of, doing_of, usage};
+ghost use Rattle.pac_command.specs.Commands.{doing_of, upstream_of, usage};
 ghost use Rattle.pac_command.specs.Laws.{CommandsKeepLaws};
 
 use crate::Status;
 use crate::check::check;
 use crate::generate::generate;
-use crate::map::map;
-use crate::resolve::resolve;
+use crate::given::given_by;
+use crate::work::{read_mapping, read_work};
 use pac_ask::ask;
 use pac_plan::{Output, line};
 use pac_ports::{Clock, Dice, Files, Link, Sink, put};
 use pac_words::{Asking, Command, read_words};
 use poll_log::Terms;
+use poll_loop::Upstream;
 use std::alloc::Global;
 use std::sync::ledger::Ledger;
 use step_counter::Steps;
+use url_runs::{map_urls, resolve_urls};
 use utf16_text::Memory;
 
 /// Does what the words after the program's name ask for, writes the output to `out` and returns its status.
@@ -54,32 +55,12 @@ pub fn pac<F: Files, K: Sink, N: Link, C: Clock, D: Dice, L: Ledger>(
     // run, plus one; what `generate` reads and logs is one script and one log; and the words' wait and tries are in range.
     ensures laws { CommandsKeepLaws }
 {
-    match output_of(alloc, words, files, link, clock, dice, runs) {
-        Ok(output) => give(out, &output),
-        Err(_) => Status::Memory,
-    }
-}
-
-// What the words and the outside come to.
-fn output_of<F: Files, N: Link, C: Clock, D: Dice, L: Ledger>(
-    alloc: Global,
-    words: &[String],
-    files: &mut F,
-    link: &mut N,
-    clock: &mut C,
-    dice: &mut D,
-    runs: &mut Steps<L>,
-) -> Result<Output, Memory>
-    ensures { (complete : Completion) (o : Outside) → FollowsDoing (doing_of complete (command_of (map string_bytes words.now)))
-        (record o { files = F.state files.old; link = N.state link.old; clock = C.told clock.old; dice = D.told dice.old; runs = runs.old })
-        (record o { files = F.state files.new; link = N.state link.new; clock = C.told clock.new; dice = D.told dice.new; runs = runs.new }) (made result) }
-{
     let Ok(command) = read_words(alloc, words) else {
-        return Err(Memory);
+        return Status::Memory;
     };
     match command {
-        Some(command) => done(alloc, &command, files, link, clock, dice, runs),
-        None => faulty_usage(alloc),
+        Some(command) => give(out, done(alloc, &command, files, link, clock, dice, runs)),
+        None => give(out, faulty_usage(alloc)),
     }
 }
 
@@ -93,9 +74,9 @@ fn done<F: Files, N: Link, C: Clock, D: Dice, L: Ledger>(
     dice: &mut D,
     runs: &mut Steps<L>,
 ) -> Result<Output, Memory>
-    ensures { (complete : Completion) (o : Outside) → FollowsDoing (doing_of complete (Some (command_view command.now)))
-        (record o { files = F.state files.old; link = N.state link.old; clock = C.told clock.old; dice = D.told dice.old; runs = runs.old })
-        (record o { files = F.state files.new; link = N.state link.new; clock = C.told clock.new; dice = D.told dice.new; runs = runs.new }) (made result) }
+    ensures { (complete : Completion) → FollowsDoing (doing_of complete (Some (command_view command.now)))
+        (record { files = F.state files.old; link = N.state link.old; clock = C.told clock.old; dice = D.told dice.old; runs = runs.old })
+        (record { files = F.state files.new; link = N.state link.new; clock = C.told clock.new; dice = D.told dice.new; runs = runs.new }) (made result) }
 {
     match command {
         Command::Resolve {
@@ -103,41 +84,42 @@ fn done<F: Files, N: Link, C: Clock, D: Dice, L: Ledger>(
             from,
             asking,
             running,
-        } => resolve(
-            alloc,
-            script,
-            from,
-            asking_of(*asking),
-            running,
-            files,
-            link,
-            clock,
-            dice,
-            runs,
-        ),
+        } => {
+            let given = given_by(running, clock);
+            match read_work(alloc, script, from, &given, files) {
+                Ok(work) => resolve_urls(alloc, work, upstream_of(*asking), link, dice, runs),
+                Err(early) => early.output(),
+            }
+        }
         Command::Map {
             names,
             script,
             from,
             running,
-        } => map(alloc, names, script, from, running, files, clock, runs),
+        } => {
+            let given = given_by(running, clock);
+            match read_mapping(alloc, names, script, from, &given, files) {
+                Ok((answers, work)) => map_urls(alloc, work, &answers, runs),
+                Err(early) => early.output(),
+            }
+        }
         Command::Check { script } => check(alloc, script, files),
-        Command::Ask { name, asking } => ask(alloc, name, asking_of(*asking), link, dice, runs),
+        Command::Ask { name, asking } => ask(alloc, name, upstream_of(*asking), link, dice, runs),
         Command::Generate(generating) => generate(alloc, *generating, runs),
     }
 }
 
 // Whom to ask, and how often, as the words say.
-fn asking_of(asking: Asking) -> poll_loop::Asking
-    ensures same { result ≡ asking_of (asking_view asking) }
+fn upstream_of(asking: Asking) -> Upstream
+    ensures same { result ≡ upstream_of (asking_view asking) }
     ensures ready { AreTerms result.terms }
 {
     let terms = Terms {
         wait: asking.wait,
         tries: asking.tries,
     };
-    poll_loop::Asking {
-        server: asking.server,
+    Upstream {
+        servers: asking.servers,
         terms,
     }
 }
@@ -149,10 +131,13 @@ fn faulty_usage(alloc: Global) -> Result<Output, Memory>
     line(alloc, Status::Usage, text, "", "")
 }
 
-// Writes the output.
-fn give<K: Sink>(out: &mut K, output: &Output) -> Status
-    ensures { Gives (Some (output_view output.now)) result (K.state out.old) (K.state out.new) }
+// Writes the output, unless memory ran out.
+fn give<K: Sink>(out: &mut K, output: Result<Output, Memory>) -> Status
+    ensures { Gives (made output) result (K.state out.old) (K.state out.new) }
 {
+    let Ok(output) = output else {
+        return Status::Memory;
+    };
     match put(out, &output.text) {
         Ok(()) => output.status,
         Err(_) => Status::WriteFault,

@@ -1,13 +1,13 @@
 // The batch that a command is for.
 ghost use Rattle.std.specs.Prelude.{◌≡◌, ◌≤◌, ◌∷◌, [], length, IfOk, map};
 ghost use Rattle.js_interp.specs.Answers.{entry_of};
-ghost use Rattle.pac_plan.specs.Plan.{Outside};
+ghost use Rattle.pac_ports.specs.Files.{FilesState};
 ghost use Rattle.pac_words.specs.Views.{source_view};
 ghost use Rattle.batch_text.specs.Batch.{entry_seen};
 ghost use Rattle.batch_text.specs.View.{seen_of};
-ghost use Rattle.pac_command.specs.Steps.{IsStep};
+ghost use Rattle.pac_command.specs.Steps.{IsStep, ok_as};
 ghost use Rattle.pac_command.specs.Urls as spec;
-ghost use Rattle.pac_command.specs.Urls.{batch_then, entries_for, seen_batch, url_then, urls_from};
+ghost use Rattle.pac_command.specs.Urls.{batch_then, entries_for, url_then, urls_from};
 ghost use Rattle.utf16_text.specs.declared.limits.TheConstants.{LONGEST_FILE};
 
 use crate::early::Early;
@@ -29,8 +29,7 @@ pub(crate) fn read_urls<F: Files>(
     given: &Given,
     files: &mut F,
 ) -> Result<Batch, Early>
-    ensures { (o : Outside) → IsStep (urls_from given.now (source_view from.now))
-        (record o { files = F.state files.old }) (seen_batch result) (record o { files = F.state files.new }) }
+    ensures { IsStep (urls_from given.now (source_view from.now)) (F.state files.old) (ok_as (map entry_seen) result) (F.state files.new) }
 {
     match from {
         Source::Url(url) => one_url(alloc, url, given),
@@ -43,7 +42,7 @@ pub(crate) fn read_urls<F: Files>(
 
 /// One URL, at the moment of the command.
 fn one_url(alloc: Global, url: &str, given: &Given) -> Result<Batch, Early>
-    ensures { (o : Outside) → IsStep (url_then given.now url.now) o (seen_batch result) o }
+    ensures { (files : FilesState) → IsStep (url_then given.now url.now) files (ok_as (map entry_seen) result) files }
 {
     match view(alloc, url) {
         Ok(seen) => Ok(only(alloc, BatchLine::Get(given.start, seen))?),
@@ -66,7 +65,7 @@ fn only(alloc: Global, line: BatchLine) -> Result<Batch, Memory>
 /// The batch of these bytes.
 fn batch_in(alloc: Global, bytes: &[u8], given: &Given) -> Result<Batch, Early>
     requires { length bytes.now ≤ LONGEST_FILE }
-    ensures { (o : Outside) → IsStep (batch_then given.now bytes.now) o (seen_batch result) o }
+    ensures { (files : FilesState) → IsStep (batch_then given.now bytes.now) files (ok_as (map entry_seen) result) files }
 {
     match read_batch(alloc, bytes, given.start) {
         Ok(batch) => Ok(batch),

@@ -29,7 +29,8 @@ number_read : (octets name : List ℕ) (id : ℕ) → octets ≡ question_octets
 unfolding question_octets
 number_read octets name id e = ap (big_number 2) e ∙ big_from-bytes 2 id (drop 2 (header_octets (query_header id) ++ asked_octets name))
 
-asked_number : (octets : List ℕ) (q : Question) → asked_by octets ≡ Some q → q.id < 2 ^ 16
+-- what is read as a question has a number of 16 bits
+pub asked_number : (octets : List ℕ) (q : Question) → asked_by octets ≡ Some q → q.id < 2 ^ 16
 asked_number octets q e =
     let is = asked_is octets q e in
     let number : number_at octets 0 ≡ number_at octets 0 % 65536 = number_read octets (question_in octets).name (number_at octets 0) is.1 in

@@ -1,18 +1,19 @@
 -- What the next move does to the replies of a log.
 use Rattle.std.proofs.Common.{◌≡◌, ℕ, zero, suc, ◌+◌, ◌<◌, ◌≤◌, List, [], ◌∷◌, ◌++◌, map, take, length, Option, Some, None, refl, sym, ◌∙◌, ap, arith}
 use Rattle.std.specs.Prelude.{slice_get, drop}
-use Rattle.std.proofs.lemmas.List.{append_assoc, append-nil, take_all, take_at, length-append}
+use Rattle.std.proofs.lemmas.List.{append_assoc, append-nil, map-append, take_all, take_at, length-append}
 use Rattle.std.proofs.lemmas.Option.{slice_get_past}
-use Rattle.std.specs.List.{cons_option}
+use Rattle.std.specs.List.{cons_option, filter_map}
 use Rattle.js_host.specs.Answers.{AnswerMap}
 use Rattle.pac_ports.specs.declared.link.Move.{Move}
 use Rattle.pac_ports.specs.declared.link.Move.TheVariants as move
-use Rattle.pac_ports.specs.declared.link.Server.{Server}
+use Rattle.pac_ports.specs.declared.link.Servers.{Servers}
+use Rattle.pac_ports.specs.declared.link.Which.{Which}
 use Rattle.pac_ports.specs.declared.link.Got.{Got}
 use Rattle.pac_ports.specs.declared.link.Got.TheVariants as got
 use Rattle.pac_ports.specs.MemoryLink.{event_got, event_move, filled}
 use Rattle.poll_log.specs.declared.question.Question.{Question}
-use Rattle.poll_log.specs.Turns.{Turns, Begin, Then, Event, Given, Tick, with_sent, with_move, with_moves, turns_of}
+use Rattle.poll_log.specs.Turns.{Outgoing, Turns, Begin, Then, Event, Given, Tick, with_sent, with_move, with_moves, turns_of}
 use Rattle.poll_log.specs.Questions.{asked_by, asked_in, questions}
 use Rattle.poll_log.proofs.Asking.{asked_in-append}
 use Rattle.poll_log.proofs.Grows.{with_moves-append}
@@ -26,50 +27,47 @@ next_turns log m = with_moves-append (Begin []) log (m ∷ [])
 
 -- ---- a datagram is sent
 
-questions_sent : (h : Turns) (octets : List ℕ) → questions (with_sent h (octets ∷ [])) ≡ questions h ++ asked_in (octets ∷ [])
+questions_sent : (h : Turns) (d : Outgoing) → questions (with_sent h (d ∷ [])) ≡ questions h ++ asked_in (d ∷ [])
 unfolding questions
-questions_sent (Begin sent) octets = asked_in-append sent (octets ∷ [])
-questions_sent (Then before event sent) octets =
-    ap (λ qs. questions before ++ qs) (asked_in-append sent (octets ∷ [])) ∙ sym (append_assoc (questions before) (asked_in sent) (asked_in (octets ∷ [])))
-
-map_append : {A B : Type 0} (f : A → B) (xs ys : List A) → map f (xs ++ ys) ≡ map f xs ++ map f ys
-map_append f [] ys = refl
-map_append f (x ∷ xs) ys = ap (λ l. f x ∷ l) (map_append f xs ys)
+questions_sent (Begin sent) d = asked_in-append sent (d ∷ [])
+questions_sent (Then before event sent) d =
+    ap (λ qs. questions before ++ qs) (asked_in-append sent (d ∷ [])) ∙ sym (append_assoc (questions before) (asked_in sent) (asked_in (d ∷ [])))
 
 front_first : {A : Type 0} (n : ℕ) (xs ys : List A) → take n (take n xs ++ ys) ≡ take n (xs ++ ys)
 front_first zero xs ys = refl
 front_first (suc n) [] ys = refl
 front_first (suc n) (x ∷ xs) ys = ap (λ l. x ∷ l) (front_first n xs ys)
 
-replies_sent : (answers : AnswerMap) (h : Turns) (octets : List ℕ) → replies answers (with_sent h (octets ∷ [])) ≡ replies_with answers (replies answers h) octets
+replies_sent : (answers : AnswerMap) (h : Turns) (d : Outgoing) → replies answers (with_sent h (d ∷ [])) ≡ replies_with answers (replies answers h) d.octets
 unfolding replies
-replies_sent answers h octets =
-    ap (λ qs. take MOST_QUESTIONS (map (reply_from answers) qs)) (questions_sent h octets)
-    ∙ ap (take MOST_QUESTIONS) (map_append (reply_from answers) (questions h) (asked_in (octets ∷ [])))
-    ∙ sym (front_first MOST_QUESTIONS (map (reply_from answers) (questions h)) (map (reply_from answers) (asked_in (octets ∷ []))))
+replies_sent answers h d =
+    ap (λ qs. take MOST_QUESTIONS (map (reply_from answers) qs)) (questions_sent h d)
+    ∙ ap (take MOST_QUESTIONS) (map-append (reply_from answers) (questions h) (asked_in (d ∷ [])))
+    ∙ sym (front_first MOST_QUESTIONS (map (reply_from answers) (questions h)) (map (reply_from answers) (asked_in (d ∷ []))))
 
-given_sent : (h : Turns) (more : List (List ℕ)) → given (with_sent h more) ≡ given h
+given_sent : (h : Turns) (more : List Outgoing) → given (with_sent h more) ≡ given h
 unfolding given
 given_sent (Begin sent) more = refl
 given_sent (Then before (Given datagram) sent) more = refl
 given_sent (Then before Tick sent) more = refl
 
-answered_sent : (answers : AnswerMap) (h : Turns) (more : List (List ℕ)) → IsAnswered answers h → IsAnswered answers (with_sent h more)
+pub answered_sent : (answers : AnswerMap) (h : Turns) (more : List Outgoing) → IsAnswered answers h → IsAnswered answers (with_sent h more)
 unfolding IsAnswered
 answered_sent answers (Begin sent) more a = tt
 answered_sent answers (Then before event sent) more a = a
 
-pub kept_sent : (answers known : AnswerMap) (log : List Move) (kept kept' : List (List ℕ)) (count : ℕ) (octets : List ℕ) → IsKept answers known log kept count
-    → kept' ≡ replies_with known kept octets → IsKept answers known (log ++ move.Sent octets ∷ []) kept' count
-kept_sent answers known log kept kept' count octets k e =
-    let turns = next_turns log (move.Sent octets) in
+pub kept_sent : (answers known : AnswerMap) (log : List Move) (kept kept' : List (List ℕ)) (count : ℕ) (to : Which) (octets : List ℕ) → IsKept answers known log kept count
+    → kept' ≡ replies_with known kept octets → IsKept answers known (log ++ move.Sent to octets ∷ []) kept' count
+kept_sent answers known log kept kept' count to octets k e =
+    let d : Outgoing = record { to = to; octets = octets } in
+    let turns = next_turns log (move.Sent to octets) in
     record {
       same = k.same;
       replies =
           e ∙ ap (λ (m : AnswerMap). replies_with m kept octets) k.same ∙ ap (λ (l : List (List ℕ)). replies_with answers l octets) k.replies
-          ∙ sym (replies_sent answers (turns_of log) octets) ∙ ap (replies answers) (sym turns);
-      given = k.given ∙ sym (given_sent (turns_of log) (octets ∷ [])) ∙ ap given (sym turns);
-      answered = rw turns (answered_sent answers (turns_of log) (octets ∷ []) k.answered);
+          ∙ sym (replies_sent answers (turns_of log) d) ∙ ap (replies answers) (sym turns);
+      given = k.given ∙ sym (given_sent (turns_of log) (d ∷ [])) ∙ ap given (sym turns);
+      answered = rw turns (answered_sent answers (turns_of log) (d ∷ []) k.answered);
     }
 
 -- ---- an event
@@ -125,7 +123,7 @@ unfolding with_moves replies questions given IsAnswered
 kept_new answers known same = record { same = same; replies = refl; given = refl; answered = tt }
 
 pub replies_full : (answers : AnswerMap) (kept : List (List ℕ)) (octets : List ℕ) → length kept ≡ MOST_QUESTIONS → kept ≡ replies_with answers kept octets
-replies_full answers kept octets full = sym (take_at kept (map (reply_from answers) (asked_in (octets ∷ []))) MOST_QUESTIONS full)
+replies_full answers kept octets full = sym (take_at kept (map (reply_from answers) (filter_map asked_by (octets ∷ []))) MOST_QUESTIONS full)
 
 pub replies_more : (answers : AnswerMap) (kept : List (List ℕ)) (octets : List ℕ) (q : Question) → asked_by octets ≡ Some q → length kept < MOST_QUESTIONS
     → kept ++ reply_from answers q ∷ [] ≡ replies_with answers kept octets
@@ -144,18 +142,18 @@ received : (due : Option (List ℕ)) (old new : MapLinkState) (buffer buffer' : 
     → buffer' ≡ filled event buffer → new ≡ record old { log = old.log ++ event_move event ∷ [] } → ReceivesDue due old buffer given buffer' new
 received due old new buffer buffer' given event is allowed answer octets state = rw is (record { allowed = allowed; answer = answer; octets = octets; state = state })
 
-pub received_tick : (answers known : AnswerMap) (old : MapLinkState) (log log' : List Move) (opens : ℕ) (server : Option Server) (faults : ℕ) (kept : List (List ℕ)) (count : ℕ) (buffer : List ℕ)
-    → (record { log = log; opens = opens; server = server; faults = faults }) ≡ old → log' ≡ log ++ move.Tick ∷ [] → length log < MOST_MOVES
+pub received_tick : (answers known : AnswerMap) (old : MapLinkState) (log log' : List Move) (opens : ℕ) (servers : Option Servers) (faults : ℕ) (kept : List (List ℕ)) (count : ℕ) (buffer : List ℕ)
+    → (record { log = log; opens = opens; servers = servers; faults = faults }) ≡ old → log' ≡ log ++ move.Tick ∷ [] → length log < MOST_MOVES
     → IsKept answers known log kept count → length kept ≤ count
-    → ReceivesDue (due_reply answers (turns_of old.log)) old buffer got.Tick buffer (record { log = log'; opens = opens; server = server; faults = faults })
-received_tick answers known old log log' opens server faults kept count buffer view more allowed k none =
+    → ReceivesDue (due_reply answers (turns_of old.log)) old buffer got.Tick buffer (record { log = log'; opens = opens; servers = servers; faults = faults })
+received_tick answers known old log log' opens servers faults kept count buffer view more allowed k none =
     rw (← view, more)
-    (received _ (record { log = log; opens = opens; server = server; faults = faults }) _ buffer buffer got.Tick None (kept_due answers known log kept count k ∙ slice_get_past kept count none) allowed refl refl refl)
+    (received _ (record { log = log; opens = opens; servers = servers; faults = faults }) _ buffer buffer got.Tick None (kept_due answers known log kept count k ∙ slice_get_past kept count none) allowed refl refl refl)
 
-pub received_reply : (answers known : AnswerMap) (old : MapLinkState) (log log' : List Move) (opens : ℕ) (server : Option Server) (faults : ℕ) (kept : List (List ℕ)) (count : ℕ) (buffer buffer' octets : List ℕ)
-    → (record { log = log; opens = opens; server = server; faults = faults }) ≡ old → log' ≡ log ++ move.Given octets ∷ [] → length log < MOST_MOVES
+pub received_reply : (answers known : AnswerMap) (old : MapLinkState) (log log' : List Move) (opens : ℕ) (servers : Option Servers) (faults : ℕ) (kept : List (List ℕ)) (count : ℕ) (buffer buffer' octets : List ℕ)
+    → (record { log = log; opens = opens; servers = servers; faults = faults }) ≡ old → log' ≡ log ++ move.Given octets ∷ [] → length log < MOST_MOVES
     → IsKept answers known log kept count → slice_get kept count ≡ Some octets → buffer' ≡ octets ++ drop (length octets) buffer
-    → ReceivesDue (due_reply answers (turns_of old.log)) old buffer (got.Datagram (length octets)) buffer' (record { log = log'; opens = opens; server = server; faults = faults })
-received_reply answers known old log log' opens server faults kept count buffer buffer' octets view more allowed k due front =
+    → ReceivesDue (due_reply answers (turns_of old.log)) old buffer (got.Datagram (length octets)) buffer' (record { log = log'; opens = opens; servers = servers; faults = faults })
+received_reply answers known old log log' opens servers faults kept count buffer buffer' octets view more allowed k due front =
     rw (← view, more)
-    (received _ (record { log = log; opens = opens; server = server; faults = faults }) _ buffer buffer' (got.Datagram (length octets)) (Some octets) (kept_due answers known log kept count k ∙ due) allowed refl front refl)
+    (received _ (record { log = log; opens = opens; servers = servers; faults = faults }) _ buffer buffer' (got.Datagram (length octets)) (Some octets) (kept_due answers known log kept count k ∙ due) allowed refl front refl)

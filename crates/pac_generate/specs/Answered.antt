@@ -1,4 +1,4 @@
--- Logs whose questions are answered from a map, each at once and in the order of sending.
+-- Logs whose questions are answered from a map, each at once and in the order of sending, whichever server it goes to.
 use Rattle.std.specs.Prelude.{◌≡◌, ℕ, ◌+◌, List, take, map, slice_get, Option, Some, None}
 use Rattle.js_host.specs.Answers.{AnswerMap, answer_in}
 use Rattle.dns_message.specs.Reply.{reply_octets}

@@ -1,16 +1,18 @@
 -- A link in memory that answers questions from a map.
 use Rattle.std.specs.Prelude.{◌≡◌, ℕ, ◌<◌, ◌≤◌, List, [], ◌∷◌, ◌++◌, length, take, map, Option, Some, None, Result, Ok, Err}
+use Rattle.std.specs.List.{filter_map}
 use Rattle.js_host.specs.Answers.{AnswerMap}
 use Rattle.pac_ports.specs.Faults.{raised}
 use Rattle.pac_ports.specs.Link.{LinkState}
 use Rattle.pac_ports.specs.MemoryLink.{event_move, event_got, filled}
 use Rattle.pac_ports.specs.declared.sink.Failed.{Failed}
-use Rattle.pac_ports.specs.declared.link.Server.{Server}
+use Rattle.pac_ports.specs.declared.link.Servers.{Servers}
+use Rattle.pac_ports.specs.declared.link.Which.{Which}
 use Rattle.pac_ports.specs.declared.link.Move.{Move}
 use Rattle.pac_ports.specs.declared.link.Move.TheVariants as move
 use Rattle.pac_ports.specs.declared.link.Got.{Got}
 use Rattle.poll_log.specs.Turns.{turns_of}
-use Rattle.poll_log.specs.Questions.{asked_in}
+use Rattle.poll_log.specs.Questions.{asked_by}
 use Rattle.pac_generate.specs.Answered.{IsAnswered, reply_from, replies, given, due_reply}
 use Rattle.pac_generate.specs.declared.limits.TheConstants.{MOST_MOVES, MOST_QUESTIONS}
 
@@ -19,38 +21,38 @@ pub record MapLinkState : Type 0 where
   pub log : List Move
   -- how many opens; the count stays at its last number
   pub opens : ℕ
-  -- the server of the last open
-  pub server : Option Server
+  -- the servers of the last open
+  pub servers : Option Servers
   pub faults : ℕ
 
 abbrev pub new_map_link : MapLinkState
-new_map_link = record { log = []; opens = 0; server = None; faults = 0 }
+new_map_link = record { log = []; opens = 0; servers = None; faults = 0 }
 
 -- what it is as a link: it tells all, and is sure of its room in moves
 abbrev pub link_of : MapLinkState → LinkState
-link_of l = record { told = Some (record { log = l.log; opens = l.opens; server = l.server }); faults = l.faults; sure = Some MOST_MOVES }
+link_of l = record { told = Some (record { log = l.log; opens = l.opens; servers = l.servers }); faults = l.faults; sure = Some MOST_MOVES }
 
 -- with a fault more
 abbrev pub with_fault : MapLinkState → MapLinkState
 with_fault l = record l { faults = raised l.faults }
 
 -- with an open more
-abbrev pub with_open : Server → MapLinkState → MapLinkState
-with_open server l = record l { opens = raised l.opens; server = Some server }
+abbrev pub with_open : Servers → MapLinkState → MapLinkState
+with_open servers l = record l { opens = raised l.opens; servers = Some servers }
 
 -- with a move more
 abbrev pub with_move : Move → MapLinkState → MapLinkState
 with_move made l = record l { log = l.log ++ made ∷ [] }
 
 -- an open never fails
-abbrev pub Opens : MapLinkState → Server → Result (Unit {0}) Failed → MapLinkState → Type 0
-Opens old server (Ok u) new = new ≡ with_open server old
-Opens old server (Err e) new = ⊥
+abbrev pub Opens : MapLinkState → Servers → Result (Unit {0}) Failed → MapLinkState → Type 0
+Opens old servers (Ok u) new = new ≡ with_open servers old
+Opens old servers (Err e) new = ⊥
 
 -- a datagram is sent, or the call fails where its move would pass the room
-abbrev pub Sends : MapLinkState → List ℕ → Result (Unit {0}) Failed → MapLinkState → Type 0
-Sends old octets (Ok u) new = (length old.log < MOST_MOVES) × (new ≡ with_move (move.Sent octets) old)
-Sends old octets (Err e) new = (MOST_MOVES ≤ length old.log) × (new ≡ with_fault old)
+abbrev pub Sends : MapLinkState → Which → List ℕ → Result (Unit {0}) Failed → MapLinkState → Type 0
+Sends old to octets (Ok u) new = (length old.log < MOST_MOVES) × (new ≡ with_move (move.Sent to octets) old)
+Sends old to octets (Err e) new = (MOST_MOVES ≤ length old.log) × (new ≡ with_fault old)
 
 -- the reply that is due is received into the buffer, or a tick where none is due
 pub record ReceivesDue (due : Option (List ℕ)) (old : MapLinkState) (buffer : List ℕ) (got : Got) (buffer' : List ℕ) (new : MapLinkState) : Type 0 where
@@ -66,9 +68,9 @@ Receives answers old buffer (Err e) buffer' new = (MOST_MOVES ≤ length old.log
 
 -- ---- what the code keeps
 
--- the replies to questions, with what one datagram more asks, if it asks anything
+-- the replies to questions, with what one datagram more asks, if it asks anything, whichever server it goes to
 abbrev pub replies_with : AnswerMap → List (List ℕ) → List ℕ → List (List ℕ)
-replies_with answers kept datagram = take MOST_QUESTIONS (kept ++ map (reply_from answers) (asked_in (datagram ∷ [])))
+replies_with answers kept datagram = take MOST_QUESTIONS (kept ++ map (reply_from answers) (filter_map asked_by (datagram ∷ [])))
 
 -- the replies that are kept, and the number of those that were given, are those of the log, which was answered so far
 pub record IsKept (answers known : AnswerMap) (log : List Move) (kept : List (List ℕ)) (count : ℕ) : Type 0 where

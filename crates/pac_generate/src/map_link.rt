@@ -5,7 +5,7 @@ ghost use Rattle.js_host.specs.Answers.{AnswerMap};
 use crate::limits::{MOST_MOVES, MOST_QUESTIONS};
 use crate::replies::keep_reply;
 use answer_table::AnswerTable;
-use pac_ports::{Failed, Got, Link, Move, Octets, Server};
+use pac_ports::{Failed, Got, Link, Move, Octets, Server, Servers, Which};
 use std::alloc::Global;
 use std::marker::{Brand, Model, PhantomData};
 use utf16_text::Memory;
@@ -22,9 +22,9 @@ impl KnownAnswers for Brand {
     ghost answers = { map.empty };
 }
 
-/// A link in memory that replies to the first 8,192 questions that it is sent, in their order, with the answer that a
-/// table has for each; where no reply is due it ticks. The room for 16,384 moves is taken beforehand: a call that would
-/// pass it fails.
+/// A link in memory that replies to the first 8,192 questions that it is sent, in their order and whichever server they
+/// go to, with the answer that a table has for each; where no reply is due it ticks. The room for 16,384 moves is taken
+/// beforehand: a call that would pass it fails.
 #[derive(Drop)]
 pub struct MapLink<'a, K: KnownAnswers> {
     known: &'a AnswerTable,
@@ -34,7 +34,7 @@ pub struct MapLink<'a, K: KnownAnswers> {
     // How many of them were given.
     given: usize,
     opens: u64,
-    server: Option<Server>,
+    servers: Option<Servers>,
     faults: u64,
     answers: PhantomData<K>,
 }
@@ -46,7 +46,7 @@ impl<'a, K: KnownAnswers> Model for MapLink<'a, K> {
 
     ghost Value = { MapLinkState };
 
-    ghost view = { λ l. record { log = l.log.items; opens = l.opens; server = l.server; faults = l.faults } };
+    ghost view = { λ l. record { log = l.log.items; opens = l.opens; servers = l.servers; faults = l.faults } };
 
     ghost invariant = { λ l.
         (vec_len l.log ≤ MOST_MOVES) × (MOST_MOVES ≤ vec_capacity l.log) × (vec_len l.replies ≤ MOST_QUESTIONS) × (MOST_QUESTIONS ≤ vec_capacity l.replies)
@@ -70,7 +70,7 @@ impl<'a, K: KnownAnswers> MapLink<'a, K> {
             replies: Vec::with_capacity(alloc, MOST_QUESTIONS)?,
             given: 0,
             opens: 0,
-            server: None,
+            servers: None,
             faults: 0,
             answers: PhantomData,
         })
@@ -100,25 +100,26 @@ impl<'a, K: KnownAnswers> Link for MapLink<'a, K> {
 
     ghost state = { link_of };
 
-    fn open(&mut self, server: Server) -> Result<(), Failed>
-        ensures opened { HasOpened (link_of self.old) server result (link_of self.new) }
-        ensures exactly { Opens self.old server result self.new }
+    fn open(&mut self, first: Server, second: Server) -> Result<(), Failed>
+        ensures opened { HasOpened (link_of self.old) (record { first = first; second = second }) result (link_of self.new) }
+        ensures exactly { Opens self.old (record { first = first; second = second }) result self.new }
     {
         self.opens = self.opens.saturating_add(1);
-        self.server = Some(server);
+        self.servers = Some(Servers { first, second });
         Ok(())
     }
 
-    fn send(&mut self, datagram: &[u8]) -> Result<(), Failed>
+    fn send(&mut self, to: Which, datagram: &[u8]) -> Result<(), Failed>
         requires { length datagram.now ≤ 512 }
-        ensures sent { HasSent (link_of self.old) datagram.now result (link_of self.new) }
-        ensures exactly { Sends self.old datagram.now result self.new }
+        ensures sent { HasSent (link_of self.old) to datagram.now result (link_of self.new) }
+        ensures exactly { Sends self.old to datagram.now result self.new }
     {
         if self.log.len() >= MOST_MOVES {
             return Err(self.fail());
         }
         keep_reply(self.known, &mut self.replies, datagram);
-        self.log.push_reserved(Move::Sent(Octets::new(datagram)));
+        let octets = Octets::new(datagram);
+        self.log.push_reserved(Move::Sent(to, octets));
         Ok(())
     }
 

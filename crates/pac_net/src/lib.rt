@@ -1,9 +1,11 @@
 //! The network as the program sees it: a link over a UDP socket, and numbers of questions that are hard to foresee.
 //!
-//! The adapters are a few lines each and tell nothing: that a socket gives what a peer sent is the machine's matter. It
-//! stands on pac_ports, whose traits they meet.
+//! The adapters are a few lines each and tell nothing: that a socket gives what a peer sent is the machine's matter.
+//! Which datagrams are taken, and where those that are sent go, is proved. It stands on pac_ports, whose traits they
+//! meet.
 #![tactic(auto)]
 
+mod addresses;
 mod random_dice;
 mod udp_link;
 

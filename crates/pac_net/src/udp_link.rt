@@ -2,7 +2,8 @@
 ghost use Rattle.std.specs.Prelude.{IfOk};
 ghost use Rattle.pac_net.specs.Received.{IsWithin};
 
-use pac_ports::{Failed, Got, Link, Server};
+use crate::addresses::{address_of, is_taken, server_by};
+use pac_ports::{Failed, Got, Link, Server, Servers, Which};
 use std::io::{self, ErrorKind};
 use std::net::{Ipv4Addr, Net, SocketAddr, UdpSocket};
 use std::time::Duration;
@@ -10,12 +11,20 @@ use std::time::Duration;
 /// How many milliseconds a receive waits for a datagram. Where none comes, that is a tick.
 const TICK: u64 = 100;
 
-/// A UDP socket of any port that is connected to the server. It takes datagrams from the server alone.
+/// A UDP socket of any port, which is connected to nobody. It hands on what its two servers send, and a datagram of
+/// anybody else as an empty one.
 #[derive(Drop)]
 pub struct UdpLink<'a, R> {
     rt: &'a R,
-    socket: Option<UdpSocket>,
+    line: Option<Line>,
     faults: u64,
+}
+
+// A socket, and the servers that it talks to.
+#[derive(Drop)]
+struct Line {
+    socket: UdpSocket,
+    servers: Servers,
 }
 
 impl<'a, R> UdpLink<'a, R> {
@@ -23,7 +32,7 @@ impl<'a, R> UdpLink<'a, R> {
     pub fn new(rt: &'a R) -> UdpLink<'a, R> {
         UdpLink {
             rt,
-            socket: None,
+            line: None,
             faults: 0,
         }
     }
@@ -34,10 +43,11 @@ impl<R: Net> Link for UdpLink<'_, R> {
 
     ghost state = { λ l. record { told = None; faults = l.faults; sure = None } };
 
-    fn open(&mut self, server: Server) -> Result<(), Failed> {
-        match connected(self.rt, server) {
+    fn open(&mut self, first: Server, second: Server) -> Result<(), Failed> {
+        match bound(self.rt) {
             Ok(socket) => {
-                self.socket = Some(socket);
+                let servers = Servers { first, second };
+                self.line = Some(Line { socket, servers });
                 Ok(())
             }
             Err(_) => {
@@ -47,9 +57,9 @@ impl<R: Net> Link for UdpLink<'_, R> {
         }
     }
 
-    fn send(&mut self, datagram: &[u8]) -> Result<(), Failed> {
-        let is_sent = match &self.socket {
-            Some(socket) => sent_whole(socket, datagram),
+    fn send(&mut self, to: Which, datagram: &[u8]) -> Result<(), Failed> {
+        let is_sent = match &self.line {
+            Some(line) => sent_whole(line, to, datagram),
             None => false,
         };
         if is_sent {
@@ -60,8 +70,8 @@ impl<R: Net> Link for UdpLink<'_, R> {
     }
 
     fn receive(&mut self, buffer: &mut [u8; 512]) -> Result<Got, Failed> {
-        let got = match &self.socket {
-            Some(socket) => received(socket, buffer),
+        let got = match &self.line {
+            Some(line) => received(line, buffer),
             None => Err(Failed),
         };
         if got.is_err() {
@@ -71,17 +81,17 @@ impl<R: Net> Link for UdpLink<'_, R> {
     }
 }
 
-fn connected<R: Net>(rt: &R, server: Server) -> io::Result<UdpSocket> {
+fn bound<R: Net>(rt: &R) -> io::Result<UdpSocket> {
     let socket = UdpSocket::bind(rt, SocketAddr::from((Ipv4Addr::UNSPECIFIED, 0)))?;
-    socket.connect(SocketAddr::from((Ipv4Addr::from(server.address), server.port)))?;
     socket.set_read_timeout(Some(Duration::from_millis(TICK)))?;
     Ok(socket)
 }
 
 // One send, begun again where a signal interrupted it, which sends nothing. No system interrupts 2^64 - 1 times.
-fn sent_whole(socket: &UdpSocket, datagram: &[u8]) -> bool {
+fn sent_whole(line: &Line, to: Which, datagram: &[u8]) -> bool {
+    let address = address_of(server_by(to, line.servers));
     for _turn in 0..u64::MAX {
-        match socket.send(datagram) {
+        match line.socket.send_to(datagram, address) {
             Err(error) if error.kind() == ErrorKind::Interrupted => {}
             Ok(count) => return count == datagram.len(),
             Err(_) => return false,
@@ -91,13 +101,13 @@ fn sent_whole(socket: &UdpSocket, datagram: &[u8]) -> bool {
 }
 
 // One receive: a tick where none came in time or a signal came. One octet more than a datagram may have shows those
-// that are too long, which are handed on as empty.
-fn received(socket: &UdpSocket, buffer: &mut [u8; 512]) -> Result<Got, Failed>
+// that are too long, which are handed on as empty, as are those of strangers.
+fn received(line: &Line, buffer: &mut [u8; 512]) -> Result<Got, Failed>
     ensures { IfOk result IsWithin }
 {
     let mut octets = [0u8; 513];
-    match socket.recv(&mut octets) {
-        Ok(count) if count <= 512 => {
+    match line.socket.recv_from(&mut octets) {
+        Ok((count, sender)) if is_taken(line.servers, sender, count) => {
             buffer[..count].copy_from_slice(&octets[..count]);
             Ok(Got::Datagram(count))
         }

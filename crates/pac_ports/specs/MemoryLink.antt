@@ -5,7 +5,8 @@ use Rattle.pac_ports.specs.Calls as calls
 use Rattle.pac_ports.specs.Faults.{raised}
 use Rattle.pac_ports.specs.Link.{LinkState}
 use Rattle.pac_ports.specs.declared.sink.Failed.{Failed}
-use Rattle.pac_ports.specs.declared.link.Server.{Server}
+use Rattle.pac_ports.specs.declared.link.Servers.{Servers}
+use Rattle.pac_ports.specs.declared.link.Which.{Which}
 use Rattle.pac_ports.specs.declared.link.Move.{Move}
 use Rattle.pac_ports.specs.declared.link.Move.TheVariants as move
 use Rattle.pac_ports.specs.declared.link.Got.{Got}
@@ -20,15 +21,15 @@ pub record MemoryLinkState : Type 0 where
   pub events : List (Option (List ℕ))
   -- how many opens, failed ones too; the count stays at its last number
   pub opens : ℕ
-  -- the server of the last open
-  pub server : Option Server
+  -- the servers of the last open
+  pub servers : Option Servers
   pub faults : ℕ
   -- the calls of `open`, `send` and `receive` together
   pub calls : CallsState
 
 -- no move and no event yet
 abbrev pub new_link : ℕ → MemoryLinkState
-new_link room = record { log = []; room = room; events = []; opens = 0; server = None; faults = 0; calls = no_calls }
+new_link room = record { log = []; room = room; events = []; opens = 0; servers = None; faults = 0; calls = no_calls }
 
 -- with an event more to come
 abbrev pub with_event : Option (List ℕ) → MemoryLinkState → MemoryLinkState
@@ -41,7 +42,7 @@ with_failing_call call l = record l { calls = calls.with_failing_call call l.cal
 -- what it is as a link: it tells all, and is sure of its room in moves unless some call is to fail
 abbrev pub link_of : MemoryLinkState → LinkState
 link_of l = record {
-  told = Some (record { log = l.log; opens = l.opens; server = l.server });
+  told = Some (record { log = l.log; opens = l.opens; servers = l.servers });
   faults = l.faults;
   sure = sure_unless l.calls.fail_at l.room;
 }
@@ -55,26 +56,26 @@ abbrev pub with_fault : MemoryLinkState → MemoryLinkState
 with_fault l = record l { faults = raised l.faults }
 
 -- with an open more
-abbrev pub with_open : Server → MemoryLinkState → MemoryLinkState
-with_open server l = record l { opens = raised l.opens; server = Some server }
+abbrev pub with_open : Servers → MemoryLinkState → MemoryLinkState
+with_open servers l = record l { opens = raised l.opens; servers = Some servers }
 
 -- with a move more
 abbrev pub with_move : Move → MemoryLinkState → MemoryLinkState
 with_move made l = record l { log = l.log ++ made ∷ [] }
 
 -- an open succeeds, or fails where it is listed
-abbrev pub Opens : MemoryLinkState → Server → Result (Unit {0}) Failed → MemoryLinkState → Type 0
-Opens old server (Ok u) new = (is_listed old.calls ≡ false) × (new ≡ with_open server (with_call old))
-Opens old server (Err e) new = (is_listed old.calls ≡ true) × (new ≡ with_fault (with_open server (with_call old)))
+abbrev pub Opens : MemoryLinkState → Servers → Result (Unit {0}) Failed → MemoryLinkState → Type 0
+Opens old servers (Ok u) new = (is_listed old.calls ≡ false) × (new ≡ with_open servers (with_call old))
+Opens old servers (Err e) new = (is_listed old.calls ≡ true) × (new ≡ with_fault (with_open servers (with_call old)))
 
 -- whether a move fails: the call is listed, or the move would pass the room
 abbrev pub move_fails : MemoryLinkState → Bool
 move_fails l = is_listed l.calls || nat_le l.room (length l.log)
 
 -- a datagram is sent, or the call fails where it is to
-abbrev pub Sends : MemoryLinkState → List ℕ → Result (Unit {0}) Failed → MemoryLinkState → Type 0
-Sends old octets (Ok u) new = (move_fails old ≡ false) × (new ≡ with_move (move.Sent octets) (with_call old))
-Sends old octets (Err e) new = (move_fails old ≡ true) × (new ≡ with_fault (with_call old))
+abbrev pub Sends : MemoryLinkState → Which → List ℕ → Result (Unit {0}) Failed → MemoryLinkState → Type 0
+Sends old to octets (Ok u) new = (move_fails old ≡ false) × (new ≡ with_move (move.Sent to octets) (with_call old))
+Sends old to octets (Err e) new = (move_fails old ≡ true) × (new ≡ with_fault (with_call old))
 
 -- the next event: a tick where none is left, so that it ticks for ever
 abbrev pub next_event : List (Option (List ℕ)) → Option (List ℕ)

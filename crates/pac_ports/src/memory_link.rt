@@ -2,7 +2,7 @@
 ghost use Rattle.std.specs.Prelude.{◌≡◌, ◌≤◌, length, IfOk, IfSome, OnOk, OnErr};
 
 use crate::calls::Calls;
-use crate::{Failed, Got, Link, Move, MoveList, Octets, Server};
+use crate::{Failed, Got, Link, Move, MoveList, Octets, Server, Servers, Which};
 use std::alloc::Global;
 use std::collections::VecDeque;
 use std::marker::Model;
@@ -24,7 +24,7 @@ pub struct MemoryLink {
     // The datagrams to come; none for a tick.
     events: VecDeque<Option<Octets>>,
     opens: u64,
-    server: Option<Server>,
+    servers: Option<Servers>,
     faults: u64,
     calls: Calls,
 }
@@ -40,7 +40,7 @@ impl Model for MemoryLink {
       room = l.room;
       events = l.events.items;
       opens = l.opens;
-      server = l.server;
+      servers = l.servers;
       faults = l.faults;
       calls = l.calls;
     } };
@@ -64,7 +64,7 @@ impl MemoryLink {
             room,
             events: VecDeque::new(alloc),
             opens: 0,
-            server: None,
+            servers: None,
             faults: 0,
             calls: Calls::new(alloc),
         })
@@ -115,29 +115,29 @@ impl Link for MemoryLink {
 
     ghost state = { link_of };
 
-    fn open(&mut self, server: Server) -> Result<(), Failed>
-        ensures opened { HasOpened (link_of self.old) server result (link_of self.new) }
-        ensures exactly { Opens self.old server result self.new }
+    fn open(&mut self, first: Server, second: Server) -> Result<(), Failed>
+        ensures opened { HasOpened (link_of self.old) (record { first = first; second = second }) result (link_of self.new) }
+        ensures exactly { Opens self.old (record { first = first; second = second }) result self.new }
     {
         self.opens = self.opens.saturating_add(1);
-        self.server = Some(server);
+        self.servers = Some(Servers { first, second });
         if self.calls.count() {
             return Err(self.fail());
         }
         Ok(())
     }
 
-    fn send(&mut self, datagram: &[u8]) -> Result<(), Failed>
+    fn send(&mut self, to: Which, datagram: &[u8]) -> Result<(), Failed>
         requires { length datagram.now ≤ 512 }
-        ensures sent { HasSent (link_of self.old) datagram.now result (link_of self.new) }
-        ensures exactly { Sends self.old datagram.now result self.new }
+        ensures sent { HasSent (link_of self.old) to datagram.now result (link_of self.new) }
+        ensures exactly { Sends self.old to datagram.now result self.new }
     {
         if self.calls.count() || self.log.len() >= self.room {
             return Err(self.fail());
         }
         self.log
             .moves
-            .push_reserved(Move::Sent(Octets::new(datagram)));
+            .push_reserved(Move::Sent(to, Octets::new(datagram)));
         Ok(())
     }
 

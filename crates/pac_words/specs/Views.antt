@@ -3,8 +3,6 @@ use Rattle.clap.specs.Matches.{found_of}
 use Rattle.clap.specs.Walk.{first_of, rows_of}
 use Rattle.clap.specs.declared.parser.matches.ArgMatches.{ArgMatches}
 use Rattle.pac_words.specs.Commands as spec
-use Rattle.pac_words.specs.Values as value
-use Rattle.pac_ports.specs.declared.link.Server.{Server}
 use Rattle.pac_words.specs.declared.command.Asking.{Asking}
 use Rattle.pac_words.specs.declared.command.Running.{Running}
 use Rattle.pac_words.specs.declared.command.Source.{Source}
@@ -12,11 +10,8 @@ use Rattle.pac_words.specs.declared.command.Source.TheVariants as source
 use Rattle.pac_words.specs.declared.command.Command.{Command}
 use Rattle.pac_words.specs.declared.command.Command.TheVariants as command
 
-abbrev pub server_view : Server → value.Server
-server_view s = record { address = s.address; port = s.port }
-
 abbrev pub asking_view : Asking → spec.Asking
-asking_view a = record { server = server_view a.server; wait = a.wait; tries = a.tries }
+asking_view a = record { servers = a.servers; wait = a.wait; tries = a.tries }
 
 abbrev pub running_view : Running → spec.Running
 running_view r = record { fuel = r.fuel; my_ip = r.my_ip; zone = r.zone; now = r.now }

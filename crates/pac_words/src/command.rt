@@ -6,13 +6,13 @@ ghost use Rattle.pac_calendar.specs.declared.showing.TheConstants.{LAST_MOMENT};
 ghost use Rattle.poll_log.specs.declared.terms.TheConstants.{MOST_TRIES, MOST_WAIT};
 
 use pac_calendar::Zone;
-use pac_ports::Server;
+use pac_ports::Servers;
 
 /// Where and how often a name is asked for.
 #[derive(Clone, Copy)]
 pub struct Asking {
-    pub server: Server,
-    /// Beats from one sending to the next.
+    pub servers: Servers,
+    /// Beats from the first sending to the second.
     pub wait: u32,
     pub tries: u32,
     ghost waits: { 0 < wait },

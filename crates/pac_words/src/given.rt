@@ -21,7 +21,7 @@ ghost use Rattle.pac_calendar.specs.declared.showing.TheConstants.{LAST_MOMENT};
 use crate::command::{Asking, Command, Generating, Running, Source};
 use crate::number::{number, number_or};
 use crate::parse::value;
-use crate::quad::{quad_or, server_or};
+use crate::quad::{quad_or, servers_or};
 use crate::usual::{LOCAL, MOST_FUEL, USUAL_FUEL, USUAL_TRIES, USUAL_WAIT};
 use batch_text::MOST_URLS;
 use clap::ArgMatches;
@@ -75,7 +75,7 @@ fn number_given(text: Option<&str>, low: u64, high: u64) -> Option<u64>
 fn asking(matches: &ArgMatches<'_>) -> Option<Asking>
     ensures { option_map asking_view result ≡ asking_of (given_in matches.now) }
 {
-    let server = server_or(value(matches, "server"))?;
+    let servers = servers_or(value(matches, "server"), value(matches, "second"))?;
     let wait = number_or(
         value(matches, "wait"),
         USUAL_WAIT as u64,
@@ -89,7 +89,7 @@ fn asking(matches: &ArgMatches<'_>) -> Option<Asking>
         MOST_TRIES as u64,
     )?;
     Some(Asking {
-        server,
+        servers,
         wait: wait as u32,
         tries: tries as u32,
     })

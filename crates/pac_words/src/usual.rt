@@ -6,7 +6,7 @@ pub const USUAL_FUEL: u64 = 10_000_000;
 /// The most fuel that words give.
 pub const MOST_FUEL: u64 = 1_000_000_000;
 
-/// How many beats pass from one sending of a question to the next.
+/// How many beats pass from the first sending of a question to the second.
 pub const USUAL_WAIT: u32 = 10;
 
 /// How often a question is sent.

@@ -1,5 +1,5 @@
 -- The octets of a question are read as the question.
-use Rattle.std.proofs.Common.{◌≡◌, ℕ, ◌-◌, Bool, true, false, cond, ◌&&◌, List, [], ◌∷◌, ◌++◌, map, length, slice_range, Option, Some, None, refl, sym, ◌∙◌, ap}
+use Rattle.std.proofs.Common.{◌≡◌, ℕ, ◌-◌, Bool, true, false, cond, ◌&&◌, List, [], ◌∷◌, ◌++◌, length, slice_range, Option, Some, None, refl, sym, ◌∙◌, ap}
 use Rattle.std.specs.Prelude.{IsTrue, nat_eq}
 use Rattle.std.specs.List.{All, AllByRecursion, flat_map, cons_option}
 use Rattle.std.specs.Cmp.Lexicographic.{pointwise}
@@ -11,8 +11,8 @@ use Rattle.dns_name.specs.Writing.{wire_label}
 use Rattle.dns_message.specs.Question.{question_octets}
 use Rattle.dns_message.proofs.QueryLaws.{number_of, question_of, plain_is_name, plain_is_some, plain_labels}
 use Rattle.poll_log.specs.declared.question.Question.{Question}
-use Rattle.poll_log.specs.Turns.{Turns, Begin, Then}
-use Rattle.poll_log.specs.Questions.{IsQuestion, octets_of, asked_by, asked_in, checked_question, firsts, has_name, new_among, onto_unless, question_in, dotted_labels}
+use Rattle.poll_log.specs.Turns.{Outgoing, Turns, Begin, Then}
+use Rattle.poll_log.specs.Questions.{IsQuestion, octets_of, outgoing_from, asked_by, asked_in, checked_question, firsts, has_name, new_among, onto_unless, question_in, dotted_labels}
 
 labels_dotted : (name octets : List ℕ) → flat_map wire_label (labels_of name) ≡ octets → dotted_labels octets ≡ name
 labels_dotted name [] e = absurd (plain_is_some name e)
@@ -34,21 +34,22 @@ asked_by-octets_of q p = ap (checked_question (octets_of q)) (question_read q p)
     both : (is_lookup_name q.name && pointwise nat_eq (octets_of q) (octets_of q)) ≡ true
     both = ap (λ b. b && pointwise nat_eq (octets_of q) (octets_of q)) p.name ∙ same_bytes (octets_of q) (octets_of q) refl
 
-pub asked_in-append : (xs ys : List (List ℕ)) → asked_in (xs ++ ys) ≡ asked_in xs ++ asked_in ys
+pub asked_in-append : (xs ys : List Outgoing) → asked_in (xs ++ ys) ≡ asked_in xs ++ asked_in ys
 asked_in-append [] ys = refl
-asked_in-append (x ∷ xs) ys = go (asked_by x) (asked_in-append xs ys)
+asked_in-append (x ∷ xs) ys = go (asked_by x.octets) (asked_in-append xs ys)
   where
     go : (r : Option Question) → asked_in (xs ++ ys) ≡ asked_in xs ++ asked_in ys → cons_option r (asked_in (xs ++ ys)) ≡ cons_option r (asked_in xs) ++ asked_in ys
     go None e = e
     go (Some q) e = ap (λ l. q ∷ l) e
 
-asked_all : (qs : List Question) → AllByRecursion IsQuestion qs → asked_in (map octets_of qs) ≡ qs
-asked_all [] p = refl
-asked_all (q ∷ qs) p = ap (λ r. cons_option r (asked_in (map octets_of qs))) (asked_by-octets_of q p.0) ∙ ap (λ l. q ∷ l) (asked_all qs p.1)
+asked_all : (earlier qs : List Question) → AllByRecursion IsQuestion qs → asked_in (outgoing_from earlier qs) ≡ qs
+unfolding outgoing_from
+asked_all earlier [] p = refl
+asked_all earlier (q ∷ qs) p = ap (λ r. cons_option r (asked_in (outgoing_from (earlier ++ q ∷ []) qs))) (asked_by-octets_of q p.0) ∙ ap (λ l. q ∷ l) (asked_all (earlier ++ q ∷ []) qs p.1)
 
--- the questions in their octets are they
-pub asked_in-octets : (qs : List Question) → All IsQuestion qs → asked_in (map octets_of qs) ≡ qs
-asked_in-octets qs p = asked_all qs (recursion_from_All IsQuestion qs p)
+-- the questions in what is sent of them are they
+pub asked_in-outgoing : (earlier qs : List Question) → All IsQuestion qs → asked_in (outgoing_from earlier qs) ≡ qs
+asked_in-outgoing earlier qs p = asked_all earlier qs (recursion_from_All IsQuestion qs p)
 
 -- a question that is read has a lookup name
 checked_name : (octets : List ℕ) (r q : Question) → checked_question octets r ≡ Some q → IsTrue (is_lookup_name q.name)
@@ -66,13 +67,13 @@ asked_name_is octets q e = checked_name octets (question_in octets) q e
 abbrev pub HasLookupName : Question → Type 0
 HasLookupName q = IsTrue (is_lookup_name q.name)
 
-pub asked_names : (sent : List (List ℕ)) → AllByRecursion HasLookupName (asked_in sent)
+pub asked_names : (sent : List Outgoing) → AllByRecursion HasLookupName (asked_in sent)
 asked_names [] = tt
-asked_names (octets ∷ sent) = go (asked_by octets) refl (asked_names sent)
+asked_names (one ∷ sent) = go (asked_by one.octets) refl (asked_names sent)
   where
-    go : (r : Option Question) → asked_by octets ≡ r → AllByRecursion HasLookupName (asked_in sent) → AllByRecursion HasLookupName (cons_option r (asked_in sent))
+    go : (r : Option Question) → asked_by one.octets ≡ r → AllByRecursion HasLookupName (asked_in sent) → AllByRecursion HasLookupName (cons_option r (asked_in sent))
     go None e h = h
-    go (Some q) e h = (asked_name_is octets q e, h)
+    go (Some q) e h = (asked_name_is one.octets q e, h)
 
 new_named : (seen qs : List Question) → AllByRecursion HasLookupName qs → AllByRecursion HasLookupName (new_among seen qs)
 unfolding new_among

@@ -2,10 +2,10 @@
 use Rattle.std.proofs.Common.{◌≡◌, ◌≢◌, ℕ, ◌+◌, ◌-◌, ◌*◌, ◌/◌, ◌%◌, ◌<◌, ◌≤◌, Bool, true, false, cond, List, [], ◌∷◌, length, refl, sym, ◌∙◌, ap, arith, ◌==◌}
 use Rattle.std.proofs.lemmas.Bool.{eqb-true, eqb-false, eq-eqb}
 use Rattle.poll_log.specs.declared.terms.TheConstants.{FLOOD}
-use Rattle.poll_log.specs.Turns.{Turns, Begin, Then, Event, Given, Tick}
+use Rattle.poll_log.specs.Turns.{Outgoing, Turns, Begin, Then, Event, Given, Tick}
 use Rattle.poll_log.specs.Beats.{ticks, stretches, last_stretch, one_more, first_or_none, floods, beats, is_beat, events, beat_of}
 
-pub last_stretch-tick : (h : Turns) (sent : List (List ℕ)) → last_stretch (Then h Tick sent) ≡ 0
+pub last_stretch-tick : (h : Turns) (sent : List Outgoing) → last_stretch (Then h Tick sent) ≡ 0
 unfolding last_stretch stretches
 last_stretch-tick h sent = refl
 
@@ -23,7 +23,7 @@ stretches_cons (Then h (Given d) sent) = go (stretches h) (stretches_cons h)
     go [] e = cc
     go (g ∷ gs) e = refl
 
-pub last_stretch-given : (h : Turns) (d : List ℕ) (sent : List (List ℕ)) → last_stretch (Then h (Given d) sent) ≡ last_stretch h + 1
+pub last_stretch-given : (h : Turns) (d : List ℕ) (sent : List Outgoing) → last_stretch (Then h (Given d) sent) ≡ last_stretch h + 1
 unfolding last_stretch stretches
 last_stretch-given h d sent = go (stretches h) (stretches_cons h)
   where
@@ -42,7 +42,7 @@ beats_split : (h : Turns) → beats h ≡ ticks h + (last_stretch h / FLOOD + ot
 unfolding beats
 beats_split h = ap (λ l. ticks h + floods l) (stretches_cons h)
 
-given_split : (h : Turns) (d : List ℕ) (sent : List (List ℕ)) → beats (Then h (Given d) sent) ≡ ticks h + ((last_stretch h + 1) / FLOOD + others h)
+given_split : (h : Turns) (d : List ℕ) (sent : List Outgoing) → beats (Then h (Given d) sent) ≡ ticks h + ((last_stretch h + 1) / FLOOD + others h)
 unfolding beats ticks stretches
 given_split h d sent = ap (λ l. ticks h + floods (one_more l)) (stretches_cons h)
 
@@ -68,24 +68,24 @@ raised t g s b c e f = go (g % FLOOD + 1 == FLOOD) refl
     go true k = (let p : g % FLOOD + 1 ≡ FLOOD = eqb-true _ _ k in omega arith)
     go false k = (let p : g % FLOOD + 1 ≢ FLOOD = eqb-false _ _ k in omega arith)
 
-tick_beats : (h : Turns) (sent : List (List ℕ)) → beats (Then h Tick sent) ≡ beats h + 1
+tick_beats : (h : Turns) (sent : List Outgoing) → beats (Then h Tick sent) ≡ beats h + 1
 unfolding beats ticks stretches
 tick_beats h sent = omega arith
 
 -- a beat raises the number of beats by one, and another event leaves it
-pub beats_more : (h : Turns) (e : Event) (sent : List (List ℕ)) → beats (Then h e sent) ≡ beats h + beat_of h e
+pub beats_more : (h : Turns) (e : Event) (sent : List Outgoing) → beats (Then h e sent) ≡ beats h + beat_of h e
 beats_more h Tick sent = tick_beats h sent ∙ ap (λ b. beats h + cond b 1 0) (sym (tick_is_beat h))
 beats_more h (Given d) sent = raised (ticks h) (last_stretch h) (others h) (beats h) (beats (Then h (Given d) sent)) (beats_split h) (given_split h d sent) ∙ ap (λ b. beats h + cond b 1 0) (sym (given_is_beat h d))
 
-pub beats-begin : (sent : List (List ℕ)) → beats (Begin sent) ≡ 0
+pub beats-begin : (sent : List Outgoing) → beats (Begin sent) ≡ 0
 unfolding beats ticks stretches
 beats-begin sent = refl
 
-pub events-begin : (sent : List (List ℕ)) → events (Begin sent) ≡ 0
+pub events-begin : (sent : List Outgoing) → events (Begin sent) ≡ 0
 unfolding events
 events-begin sent = refl
 
-pub events-then : (h : Turns) (e : Event) (sent : List (List ℕ)) → events (Then h e sent) ≡ events h + 1
+pub events-then : (h : Turns) (e : Event) (sent : List Outgoing) → events (Then h e sent) ≡ events h + 1
 unfolding events
 events-then h e sent = refl
 

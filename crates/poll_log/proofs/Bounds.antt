@@ -8,10 +8,11 @@ use Rattle.pac_names.specs.declared.answer.Answer.{Answer}
 use Rattle.poll_log.specs.declared.question.Question.{Question}
 use Rattle.poll_log.specs.declared.terms.TheConstants.{FLOOD}
 use Rattle.poll_log.specs.declared.terms.Terms.{Terms}
-use Rattle.poll_log.specs.Turns.{Turns, Begin, Then, Event}
+use Rattle.poll_log.specs.Turns.{Outgoing, Turns, Begin, Then, Event}
 use Rattle.poll_log.specs.Beats.{beats, events, beat_of, is_beat}
 use Rattle.poll_log.specs.Questions.{firsts, was_sent, names_of, same_name}
-use Rattle.poll_log.specs.Told.{Map, age, limit, accepted, told, or_else, is_dead}
+use Rattle.poll_log.specs.Sendings.{limit}
+use Rattle.poll_log.specs.Told.{Map, age, accepted, told, or_else, is_dead}
 use Rattle.poll_log.specs.Jobs.{Job, waits_unless, is_waiting, some_wait, told_to, runs_of, IsCut, SendsOwed, WaitsBefore, wanted}
 use Rattle.poll_log.specs.Laws.{Extends, IsRestartable, IsBounded}
 use Rattle.poll_log.proofs.Names.{has, has-names, once-covers, none_some, true_false, or-true, same_itself}
@@ -19,7 +20,7 @@ use Rattle.poll_log.proofs.BeatLaws.{beats_more, beats-begin, events-begin, even
 use Rattle.poll_log.proofs.TurnLaws.{told_stays, told_next, age_next, accepted_young, sent_before}
 use Rattle.poll_log.proofs.Dues.{firsts_of_begin, firsts_next}
 
-pub extends_next : (t : Terms) (h : Turns) (e : Event) (sent : List (List ℕ)) → Extends (told t (Then h e sent)) (told t h)
+pub extends_next : (t : Terms) (h : Turns) (e : Event) (sent : List Outgoing) → Extends (told t (Then h e sent)) (told t h)
 extends_next t h e sent n x k = told_stays t h e sent n x k
 
 -- what a job lacks is wanted

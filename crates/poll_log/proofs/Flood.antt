@@ -4,6 +4,7 @@ use Rattle.std.specs.Prelude.{replicate}
 use Rattle.std.proofs.Math.Bool.{and-false}
 use Rattle.pac_ports.specs.declared.link.Move.{Move}
 use Rattle.pac_ports.specs.declared.link.Move.TheVariants as move
+use Rattle.pac_ports.specs.declared.link.Which.TheVariants.{First}
 use Rattle.dns_message.specs.Question.{question_octets}
 use Rattle.dns_message.proofs.Replies.{no_header}
 use Rattle.poll_log.specs.declared.terms.TheConstants.{FLOOD}
@@ -12,7 +13,7 @@ use Rattle.poll_log.specs.Beats.{beats, floods, ticks, stretches}
 use Rattle.poll_log.specs.Questions.{asked_by, before_birth, firsts, new_among, number_in, was_sent}
 use Rattle.poll_log.specs.Told.{accepted, accepted_in, age, beats_before_birth, beats_in, is_dead, or_else, reply_to, told}
 use Rattle.poll_log.specs.Jobs.{runs_of, told_to}
-use Rattle.poll_log.specs.Examples.{asked, example, job, lacking, once_only}
+use Rattle.poll_log.specs.Examples.{asked, example, job, lacking, once_only, to_first}
 use Rattle.poll_log.proofs.TurnLaws.{sent_before, told_next}
 use Rattle.poll_log.proofs.Births.{age_since_birth}
 
@@ -65,7 +66,7 @@ many_ticks zero h = refl
 many_ticks (suc n) h = many_ticks n (Then h (Given []) [])
 
 begun : Turns
-begun = Begin (asked ∷ [])
+begun = Begin (to_first ∷ [])
 
 begun_quiet : Quiet begun
 unfolding begun firsts new_among asked_by question_octets told before_birth runs_of
@@ -73,7 +74,7 @@ begun_quiet = record { sent = refl; untold = refl; born = refl; cost = refl }
 
 -- The question is sent, and so many empty datagrams come.
 abbrev pub flood : ℕ → Turns
-flood n = turns_of (move.Sent asked ∷ replicate n (move.Given []))
+flood n = turns_of (move.Sent First asked ∷ replicate n (move.Given []))
 
 flood_begun : (n : ℕ) → flood n ≡ with_moves begun (empty n)
 unfolding with_moves begun empty

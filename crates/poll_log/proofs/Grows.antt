@@ -6,10 +6,11 @@ use Rattle.pac_names.specs.declared.answer.Answer.{Answer}
 use Rattle.pac_ports.specs.declared.link.Move.{Move}
 use Rattle.pac_ports.specs.declared.link.Move.TheVariants as move
 use Rattle.poll_log.specs.declared.terms.Terms.{Terms}
-use Rattle.poll_log.specs.Turns.{Turns, Begin, Then, Event, Given, Tick, with_sent, with_move, with_moves, turns_of}
+use Rattle.poll_log.specs.Turns.{Outgoing, Turns, Begin, Then, Event, Given, Tick, with_sent, with_move, with_moves, turns_of}
 use Rattle.poll_log.specs.Beats.{beat_of}
 use Rattle.poll_log.specs.Questions.{firsts, was_sent, has_name, asked_in, new_among}
-use Rattle.poll_log.specs.Told.{age, limit, is_overdue, accepted, told, or_else, is_dead}
+use Rattle.poll_log.specs.Sendings.{limit}
+use Rattle.poll_log.specs.Told.{age, is_overdue, accepted, told, or_else, is_dead}
 use Rattle.poll_log.specs.Laws.{ToldGrows, ToldWasSent, DeadStays, FinishedStays, UnansweredStays}
 use Rattle.poll_log.proofs.Names.{has_name-append, new_among-append, or-first, true_false}
 use Rattle.poll_log.proofs.Asking.{asked_in-append}
@@ -31,13 +32,13 @@ module _ (P : Turns → Type 0) (step : (h : Turns) (m : Move) → P h → P (wi
   longer ms more p = subst P (sym (with_moves-append (Begin []) ms more)) (along (turns_of ms) more p)
 
 -- more sends in the last turn change nothing that is told
-told_with_sent : (t : Terms) (h : Turns) (more : List (List ℕ)) (n : List ℕ) → told t (with_sent h more) n ≡ told t h n
+told_with_sent : (t : Terms) (h : Turns) (more : List Outgoing) (n : List ℕ) → told t (with_sent h more) n ≡ told t h n
 unfolding told
 told_with_sent t (Begin sent) more n = refl
 told_with_sent t (Then h e sent) more n = refl
 
 told_step : (t : Terms) (n : List ℕ) (x : Answer) (h : Turns) (m : Move) → told t h n ≡ Some x → told t (with_move h m) n ≡ Some x
-told_step t n x h (move.Sent octets) k = told_with_sent t h (octets ∷ []) n ∙ k
+told_step t n x h (move.Sent to octets) k = told_with_sent t h (record { to = to; octets = octets } ∷ []) n ∙ k
 told_step t n x h (move.Given octets) k = told_stays t h (Given octets) [] n x k
 told_step t n x h move.Tick k = told_stays t h Tick [] n x k
 
@@ -52,7 +53,7 @@ told_was_sent t h n s = go (was_sent h n) refl
     go false k = true_false (sym (sym (ap is_some (told_unsent t h n k)) ∙ s))
 
 -- more sends leave who was sent, and his age
-sent_with_sent : (h : Turns) (more : List (List ℕ)) (n : List ℕ) → was_sent h n ≡ true → was_sent (with_sent h more) n ≡ true
+sent_with_sent : (h : Turns) (more : List Outgoing) (n : List ℕ) → was_sent h n ≡ true → was_sent (with_sent h more) n ≡ true
 unfolding firsts
 sent_with_sent (Begin sent) more n k =
     ap (λ l. has_name n (new_among [] l)) (asked_in-append sent more)
@@ -70,7 +71,7 @@ sent_with_sent (Then h e sent) more n k =
     go false true d e = refl
     go false false d e = true_false (sym e)
 
-age_with_sent : (h : Turns) (more : List (List ℕ)) (n : List ℕ) → was_sent h n ≡ true → age (with_sent h more) n ≡ age h n
+age_with_sent : (h : Turns) (more : List Outgoing) (n : List ℕ) → was_sent h n ≡ true → age (with_sent h more) n ≡ age h n
 unfolding age
 age_with_sent (Begin sent) more n k = refl
 age_with_sent (Then h e sent) more n k = ap (λ b. cond b (age h n + beat_of h e) 0) (sent_with_sent (Then h e sent) more n k ∙ sym k)
@@ -119,12 +120,13 @@ died_then t n h e d =
     }
 
 dead_step : (t : Terms) (n : List ℕ) (h : Turns) (m : Move) → Died t h n → Died t (with_move h m) n
-dead_step t n h (move.Sent octets) d =
-    let a : age (with_sent h (octets ∷ [])) n ≡ age h n = age_with_sent h (octets ∷ []) n d.sent in
+dead_step t n h (move.Sent to octets) d =
+    let more : List Outgoing = record { to = to; octets = octets } ∷ [] in
+    let a : age (with_sent h more) n ≡ age h n = age_with_sent h more n d.sent in
     let o : limit t ≤ age h n = d.old in
     record {
-      sent = sent_with_sent h (octets ∷ []) n d.sent;
-      untold = told_with_sent t h (octets ∷ []) n ∙ d.untold;
+      sent = sent_with_sent h more n d.sent;
+      untold = told_with_sent t h more n ∙ d.untold;
       old = omega arith;
     }
 dead_step t n h (move.Given octets) d = died_then t n h (Given octets) d

@@ -1,8 +1,9 @@
 pub mod Names
 pub mod Asking
 pub mod BeatLaws
-pub mod Marks
+pub mod Sendings
 pub mod Counts
+pub mod Outgoing
 pub mod TurnLaws
 pub mod Dues
 pub mod Bounds

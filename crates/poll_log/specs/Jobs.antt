@@ -1,10 +1,10 @@
 -- What has become of jobs that wait for names, what they have cost, and which sends they are owed.
-use Rattle.std.specs.Prelude.{◌≡◌, ℕ, ◌+◌, Bool, true, false, not, nat_lt, if◌then◌else◌, Option, Some, None, is_some, List, [], ◌∷◌, ◌++◌, map}
+use Rattle.std.specs.Prelude.{◌≡◌, ℕ, ◌+◌, Bool, true, false, not, nat_lt, if◌then◌else◌, Option, Some, None, is_some, List, [], ◌∷◌, ◌++◌}
 use Rattle.std.specs.List.{All, filter, filter_map, list_any}
 use Rattle.poll_log.specs.declared.question.Question.{Question}
 use Rattle.poll_log.specs.declared.terms.Terms.{Terms}
-use Rattle.poll_log.specs.Turns.{Turns, Begin, Then, with_sent}
-use Rattle.poll_log.specs.Questions.{IsQuestion, octets_of, questions, firsts, names_of, same_name, times}
+use Rattle.poll_log.specs.Turns.{Outgoing, Turns, Begin, Then, with_sent}
+use Rattle.poll_log.specs.Questions.{IsQuestion, outgoing_from, questions, firsts, names_of, same_name, times}
 use Rattle.poll_log.specs.Told.{Map, told, is_dead, due_sends}
 
 -- A job is known by the first name that its run asks and the answers don't hold, where there is one.
@@ -58,15 +58,16 @@ once seen [] = []
 once seen (n ∷ ns) = onto_new (list_any (λ m. same_name m n) seen) n (once seen ns) (once (seen ++ n ∷ []) ns)
 
 -- What is owed in a turn, where in earlier turns these questions were sent, and these first for their names.
-pub record IsOwed (terms : Terms) (jobs : List Job) (earlier before : List Question) (turns : Turns) (sent : List (List ℕ)) : Type 0 where
+pub record IsOwed (terms : Terms) (jobs : List Job) (earlier before : List Question) (turns : Turns) (sent : List Outgoing) : Type 0 where
   pub fresh : List Question
   pub again : List Question
-  pub octets : sent ≡ map octets_of (fresh ++ again)
   -- the first untold names of the jobs, each once, without those that were sent in an earlier turn
   pub asks : names_of fresh ≡ once (names_of before) (wanted jobs (told terms turns))
   pub proper : All IsQuestion fresh
   -- then each name, in the order of first sending, that was sent fewer times by now than it is due
   pub repeats : again ≡ filter (λ q. nat_lt (times (earlier ++ fresh) q.name) (due_sends terms turns q.name)) (before ++ fresh)
+  -- each goes to the server whose turn it is
+  pub out : sent ≡ outgoing_from earlier (fresh ++ again)
 
 -- in each turn what is owed was sent, and nothing else
 abbrev pub SendsOwed : Terms → List Job → Turns → Type 0
@@ -90,6 +91,6 @@ pub record IsPolled (terms : Terms) (jobs : List Job) (turns : Turns) : Type 0 w
 
 -- A log cut short: the last turn may lack the last of the sends that are owed, and a job may still wait.
 pub record IsCut (terms : Terms) (jobs : List Job) (turns : Turns) : Type 0 where
-  pub unsent : List (List ℕ)
+  pub unsent : List Outgoing
   pub sends : SendsOwed terms jobs (with_sent turns unsent)
   pub waits : WaitsBefore terms jobs turns

@@ -6,10 +6,11 @@ use Rattle.pac_ports.specs.declared.link.Move.{Move}
 use Rattle.poll_log.specs.declared.terms.TheConstants.{FLOOD}
 use Rattle.poll_log.specs.declared.question.Question.{Question}
 use Rattle.poll_log.specs.declared.terms.Terms.{Terms}
+use Rattle.poll_log.specs.Sendings.{limit}
 use Rattle.poll_log.specs.Turns.{Turns, turns_of}
 use Rattle.poll_log.specs.Beats.{beats, events}
 use Rattle.poll_log.specs.Questions.{IsQuestion, octets_of, asked_by, questions, was_sent, times}
-use Rattle.poll_log.specs.Told.{Map, age, beats_before_birth, told, IsDead, due_sends, limit}
+use Rattle.poll_log.specs.Told.{Map, age, beats_before_birth, told, IsDead, due_sends}
 use Rattle.poll_log.specs.Jobs.{Job, IsFinished, IsUnanswered, runs_of, some_wait, SendsOwed, WaitsBefore}
 
 -- the larger map holds each answer of the smaller one

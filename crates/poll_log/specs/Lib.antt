@@ -1,3 +1,4 @@
+pub mod Sendings
 pub mod Turns
 pub mod Beats
 pub mod Questions

@@ -1,12 +1,14 @@
 -- What is in flight and dead, by the answers that are told, the ages, and the first sends.
-use Rattle.std.specs.Prelude.{ℕ, ◌+◌, ◌%◌, Bool, ◌&&◌, ◌==◌, nat_lt, nat_le, if◌then◌else◌, is_none, List, map}
+use Rattle.std.specs.Prelude.{ℕ, ◌+◌, Bool, ◌&&◌, nat_lt, nat_le, if◌then◌else◌, is_none, Option, None, option_map, List, map}
 use Rattle.std.specs.List.{filter}
 use Rattle.poll_log.specs.declared.flight.Flight.{Flight}
 use Rattle.poll_log.specs.declared.question.Question.{Question}
+use Rattle.poll_log.specs.declared.sending.Sending.{Sending}
 use Rattle.poll_log.specs.declared.terms.Terms.{Terms}
 use Rattle.poll_log.specs.Turns.{Turns}
-use Rattle.poll_log.specs.Questions.{firsts, has_name}
-use Rattle.poll_log.specs.Told.{Map, age, limit, told}
+use Rattle.poll_log.specs.Questions.{firsts, has_name, numbered_sending}
+use Rattle.poll_log.specs.Sendings.{limit, sending_at}
+use Rattle.poll_log.specs.Told.{Map, age, told}
 
 abbrev pub flight_at : (List ℕ → ℕ) → Question → Flight
 flight_at age q = record { question = q; age = age q.name }
@@ -27,9 +29,10 @@ dead_in limit answers age sent n = has_name n sent && is_none (answers n) && nat
 unfoldable pub older : List Question → (List ℕ → ℕ) → List ℕ → ℕ
 older sent age n = if has_name n sent then age n + 1 else 0
 
--- a question that is in flight at a multiple of the wait is sent again
-abbrev pub is_sent_again : Terms → Map → (List ℕ → ℕ) → Question → Bool
-is_sent_again terms answers age q = flies (limit terms) answers age q.name && (age q.name % terms.wait) == 0
+-- a question in flight is sent again at the age of a sending
+abbrev pub sent_again : Terms → Map → (List ℕ → ℕ) → Question → Option Sending
+sent_again terms answers age q =
+    if flies (limit terms) answers age q.name then option_map (numbered_sending q) (sending_at terms (age q.name)) else None
 
 -- the questions in flight after a log: sent, neither told nor dead, in the order of first sending, with number and age
 abbrev pub flights_of : Terms → Turns → List Flight

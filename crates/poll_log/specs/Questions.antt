@@ -3,11 +3,15 @@ use Rattle.std.specs.Prelude.{ℕ, ◌+◌, ◌-◌, ◌<◌, ◌^◌, IsTrue, B
 use Rattle.std.specs.List.{filter_map, list_any}
 use Rattle.std.specs.Cmp.Lexicographic.{pointwise}
 use Rattle.pac_names.specs.Names.{is_lookup_name}
+use Rattle.pac_ports.specs.declared.link.Which.{Which}
+use Rattle.pac_ports.specs.declared.link.Which.TheVariants.{First}
 use Rattle.dns_message.specs.Dotted.{dotted}
 use Rattle.dns_message.specs.Numbers.{number_at}
 use Rattle.dns_message.specs.Question.{question_octets}
 use Rattle.poll_log.specs.declared.question.Question.{Question}
-use Rattle.poll_log.specs.Turns.{Turns, Begin, Then}
+use Rattle.poll_log.specs.declared.sending.Sending.{Sending}
+use Rattle.poll_log.specs.Sendings.{server_of}
+use Rattle.poll_log.specs.Turns.{Outgoing, Turns, Begin, Then}
 
 -- whether two names are one; names are lists of bytes in lower case
 abbrev pub same_name : List ℕ → List ℕ → Bool
@@ -20,6 +24,24 @@ pub record IsQuestion (q : Question) : Type 0 where
 
 abbrev pub octets_of : Question → List ℕ
 octets_of q = question_octets q.id q.name
+
+abbrev pub outgoing : Which → Question → Outgoing
+outgoing to q = record { to = to; octets = octets_of q }
+
+-- the datagram of a sending
+abbrev pub outgoing_of : Sending → Outgoing
+outgoing_of sending = outgoing sending.to sending.question
+
+-- the sending of a question that has this number
+abbrev pub numbered_sending : Question → ℕ → Sending
+numbered_sending q number = record { to = server_of number; question = q }
+
+-- the first sending of a question goes to the first server
+abbrev pub first_sending : Question → Sending
+first_sending q = record { to = First; question = q }
+
+abbrev pub first_sent : List Question → List Outgoing
+first_sent qs = map outgoing_of (map first_sending qs)
 
 -- labels as they stand in a message, as a dotted name
 abbrev pub dotted_labels : List ℕ → List ℕ
@@ -38,8 +60,8 @@ checked_question octets q = if is_lookup_name q.name && pointwise nat_eq octets 
 unfoldable pub asked_by : List ℕ → Option Question
 asked_by octets = checked_question octets (question_in octets)
 
-abbrev pub asked_in : List (List ℕ) → List Question
-asked_in sent = filter_map asked_by sent
+abbrev pub asked_in : List Outgoing → List Question
+asked_in sent = filter_map (λ d. asked_by d.octets) sent
 
 -- the questions that were sent, in order
 unfoldable pub questions : Turns → List Question
@@ -82,6 +104,12 @@ drawn turns = map (λ q. q.id) (firsts turns)
 abbrev pub times : List Question → List ℕ → ℕ
 times [] n = 0
 times (q ∷ qs) n = (if same_name q.name n then 1 else 0) + times qs n
+
+-- These questions as they are sent, in order, where others were sent before: each goes to the server whose turn it is, by
+-- how often its name was sent.
+unfoldable pub outgoing_from : List Question → List Question → List Outgoing
+outgoing_from earlier [] = []
+outgoing_from earlier (q ∷ qs) = outgoing (server_of (times earlier q.name)) q ∷ outgoing_from (earlier ++ q ∷ []) qs
 
 -- the turns before the one in which the name was first sent; none where it was sent in turn 0, or never
 unfoldable pub before_birth : Turns → List ℕ → Option Turns

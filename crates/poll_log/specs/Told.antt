@@ -1,9 +1,10 @@
 -- How old a name is, what it was answered, and when it is to be sent again or is dead. All by counting in the log.
-use Rattle.std.specs.Prelude.{ℕ, zero, suc, ◌+◌, ◌-◌, ◌*◌, Bool, ◌&&◌, not, nat_le, if◌then◌else◌, IsTrue, Option, Some, None, is_none, List}
+use Rattle.std.specs.Prelude.{ℕ, ◌+◌, ◌-◌, Bool, ◌&&◌, not, nat_le, if◌then◌else◌, IsTrue, Option, Some, None, is_none, List}
 use Rattle.pac_names.specs.declared.answer.Answer.{Answer}
 use Rattle.dns_message.specs.Reply.{reply_of}
 use Rattle.poll_log.specs.declared.question.Question.{Question}
 use Rattle.poll_log.specs.declared.terms.Terms.{Terms}
+use Rattle.poll_log.specs.Sendings.{fallen_due, limit}
 use Rattle.poll_log.specs.Turns.{Turns, Begin, Then, Event, Given, Tick}
 use Rattle.poll_log.specs.Beats.{beats, beat_of}
 use Rattle.poll_log.specs.Questions.{before_birth, firsts, was_sent, has_name, number_in}
@@ -24,10 +25,6 @@ beats_in (Some turns) = beats turns
 -- the beats before the turn of the first send
 abbrev pub beats_before_birth : Turns → List ℕ → ℕ
 beats_before_birth turns n = beats_in (before_birth turns n)
-
--- the age from which on no reply is taken
-abbrev pub limit : Terms → ℕ
-limit terms = terms.wait * terms.tries
 
 abbrev pub is_overdue : Terms → Turns → List ℕ → Bool
 is_overdue terms turns n = nat_le (limit terms) (age turns n)
@@ -74,11 +71,6 @@ stopped_age terms (Then before event sent) n =
     if is_none (told terms (Then before event sent) n) then age (Then before event sent) n
     else (if is_none (told terms before n) then age before n else stopped_age terms before n)
 
--- how many of the first multiples of the wait, so many, an age has reached
-abbrev pub marks : ℕ → ℕ → ℕ → ℕ
-marks wait zero age = 0
-marks wait (suc m) age = marks wait m age + (if nat_le ((m + 1) * wait) age then 1 else 0)
-
--- how often the name is to have been sent: once, and once more at each multiple of the wait below the limit
+-- how often the name is to have been sent: once, and once more for each further sending that has fallen due by its age
 unfoldable pub due_sends : Terms → Turns → List ℕ → ℕ
-due_sends terms turns n = marks terms.wait (terms.tries - 1) (stopped_age terms turns n) + 1
+due_sends terms turns n = fallen_due terms.wait (terms.tries - 1) (stopped_age terms turns n) + 1

@@ -1,7 +1,13 @@
--- A log of moves, oldest first, cut into turns. Datagrams are lists of octets.
+-- A log of moves, oldest first, cut into turns. The octets of a datagram are a list.
 use Rattle.std.specs.Prelude.{ℕ, List, [], ◌∷◌, ◌++◌}
 use Rattle.pac_ports.specs.declared.link.Move.{Move}
 use Rattle.pac_ports.specs.declared.link.Move.TheVariants as move
+use Rattle.pac_ports.specs.declared.link.Which.{Which}
+
+-- a datagram that was sent to one of the servers
+pub record Outgoing : Type 0 where
+  pub to : Which
+  pub octets : List ℕ
 
 -- What comes: a datagram, or a tick.
 pub data Event : Type 0 where
@@ -10,16 +16,16 @@ pub data Event : Type 0 where
 
 -- Turn 0 is what was sent before the first event. Each later turn is an event and what was sent after it.
 pub data Turns : Type 0 where
-  Begin : List (List ℕ) → Turns
-  Then : Turns → Event → List (List ℕ) → Turns
+  Begin : List Outgoing → Turns
+  Then : Turns → Event → List Outgoing → Turns
 
 -- with more that was sent in the last turn
-abbrev pub with_sent : Turns → List (List ℕ) → Turns
+abbrev pub with_sent : Turns → List Outgoing → Turns
 with_sent (Begin sent) more = Begin (sent ++ more)
 with_sent (Then before event sent) more = Then before event (sent ++ more)
 
 abbrev pub with_move : Turns → Move → Turns
-with_move turns (move.Sent octets) = with_sent turns (octets ∷ [])
+with_move turns (move.Sent to octets) = with_sent turns (record { to = to; octets = octets } ∷ [])
 with_move turns (move.Given octets) = Then turns (Given octets) []
 with_move turns move.Tick = Then turns Tick []
 
@@ -33,6 +39,6 @@ abbrev pub turns_of : List Move → Turns
 turns_of moves = with_moves (Begin []) moves
 
 -- all that was sent, in order
-unfoldable pub sends : Turns → List (List ℕ)
+unfoldable pub sends : Turns → List Outgoing
 sends (Begin sent) = sent
 sends (Then before event sent) = sends before ++ sent

@@ -3,13 +3,14 @@
 //!
 //! `specs/` cuts a log into turns, counts its beats, and says how old each name is, what it was answered, when it is
 //! dead, and which sends are owed to jobs that wait for names. A job is any function from the answers that are told to
-//! the first name that it still lacks. The code is only the types that the definitions speak of; it stands on pac_ports
-//! and dns_message.
+//! the first name that it still lacks. The code is the types that the definitions speak of, and when a question is sent
+//! again; it stands on pac_ports and dns_message.
 #![tactic(auto)]
 
 mod flight;
 mod laws;
 mod question;
+mod sending;
 mod terms;
 
 pub use flight::Flight;
@@ -19,4 +20,5 @@ pub use laws::{
     unanswered_stays,
 };
 pub use question::Question;
-pub use terms::{FLOOD, MOST_TRIES, MOST_WAIT, Terms};
+pub use sending::Sending;
+pub use terms::{FLOOD, MOST_TRIES, MOST_WAIT, Terms, server_of};

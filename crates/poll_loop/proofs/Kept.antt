@@ -2,7 +2,7 @@
 use Rattle.std.proofs.Common.{◌≡◌, inl, inr, ◌≤◌, List, [], ◌∷◌, refl, sym, ◌∙◌, ap, subst, arith}
 use Rattle.pac_ports.specs.Link.{LinkState}
 use Rattle.pac_ports.specs.declared.link.Move.{Move}
-use Rattle.pac_ports.specs.declared.link.Server.{Server}
+use Rattle.pac_ports.specs.declared.link.Servers.{Servers}
 use Rattle.poll_log.specs.declared.terms.Terms.{Terms}
 use Rattle.poll_log.specs.Turns.{turns_of, with_moves}
 use Rattle.poll_log.specs.Beats.{events}
@@ -14,16 +14,16 @@ use Rattle.poll_loop.specs.Talks.{Ends, Talked, linked, most_events}
 use Rattle.poll_loop.specs.Laws.{UnfinishedIsCut}
 use Rattle.poll_loop.proofs.Owing.{cut_begin}
 
-linked_faults : (server : Server) (log : List Move) (link : LinkState) → (linked server log link).faults ≡ link.faults
-linked_faults server [] link = refl
-linked_faults server (m ∷ log) link = refl
+linked_faults : (servers : Servers) (log : List Move) (link : LinkState) → (linked servers log link).faults ≡ link.faults
+linked_faults servers [] link = refl
+linked_faults servers (m ∷ log) link = refl
 
 unfinished_faults : (talk : Talk) (old : Outside) (log : List Move) (new : Outside) → Ends talk old unfinished log new → new.link.faults ≡ old.link.faults
-unfinished_faults talk old log new (inl ends) = ap (λ l. l.faults) ends.link ∙ linked_faults talk.server log old.link
+unfinished_faults talk old log new (inl ends) = ap (λ l. l.faults) ends.link ∙ linked_faults talk.servers log old.link
 unfinished_faults talk old log new (inr ends) = ap (λ (o : Outside). o.link.faults) ends.same
 
 pub counted : (talk : Talk) (old : Outside) (end : End) (log : List Move) (new : Outside) → Talked talk old end log new → CountsFaults end old.link new.link
-counted talk old whole log new t = ap (λ l. l.faults) t.ends.link ∙ linked_faults talk.server log old.link
+counted talk old whole log new t = ap (λ l. l.faults) t.ends.link ∙ linked_faults talk.servers log old.link
 counted talk old faulted log new t = (t.ends.link.rose, t.ends.unsure)
 counted talk old unfinished log new t = unfinished_faults talk old log new t.ends
 

@@ -4,39 +4,38 @@ use Rattle.std.proofs.lemmas.List.{append-nil, map-append, map_more, take-map}
 use Rattle.pac_ports.specs.Dice.{DiceTold}
 use Rattle.pac_ports.specs.Link.{HasGot, LinkState, LinkTold, with_moves as adding, with_open}
 use Rattle.pac_ports.specs.declared.link.Move.{Move}
-use Rattle.pac_ports.specs.declared.link.Move.TheVariants as move
-use Rattle.pac_ports.specs.declared.link.Server.{Server}
-use Rattle.poll_log.specs.Turns.{Turns, Begin, Then, Event, Given, Tick, with_moves, with_sent, turns_of}
-use Rattle.poll_log.specs.Questions.{drawn, firsts, asked_in, new_among, octets_of}
-use Rattle.poll_log.specs.declared.question.Question.{Question}
+use Rattle.pac_ports.specs.declared.link.Servers.{Servers}
+use Rattle.poll_log.specs.Turns.{Outgoing, Turns, Begin, Then, Event, Given, Tick, with_moves, with_sent, turns_of}
+use Rattle.poll_log.specs.Questions.{drawn, firsts, asked_in, new_among, outgoing_of}
+use Rattle.poll_log.specs.declared.sending.Sending.{Sending}
 use Rattle.poll_log.proofs.Grows.{with_moves-append}
 use Rattle.poll_log.proofs.TurnLaws.{firsts-then}
-use Rattle.poll_loop.specs.Events.{event_got, move_of}
+use Rattle.poll_loop.specs.Events.{event_got, move_of, sent_move}
 use Rattle.pac_ports.specs.declared.link.Got.{Got}
 use Rattle.pac_ports.specs.declared.link.Got.TheVariants as got
 use Rattle.poll_loop.specs.Numbers.{GaveAll, newly_drawn}
 use Rattle.poll_loop.specs.Talks.{linked}
 
-sent_then : (h : Turns) (e : Event) (sent more : List (List ℕ)) → with_moves (Then h e sent) (map move.Sent more) ≡ Then h e (sent ++ more)
+sent_then : (h : Turns) (e : Event) (sent more : List Outgoing) → with_moves (Then h e sent) (map sent_move more) ≡ Then h e (sent ++ more)
 unfolding with_moves
 sent_then h e sent [] = ap (Then h e) (sym (append-nil sent))
-sent_then h e sent (octets ∷ more) = sent_then h e (sent ++ octets ∷ []) more ∙ ap (Then h e) (append_assoc sent (octets ∷ []) more)
+sent_then h e sent (d ∷ more) = sent_then h e (sent ++ d ∷ []) more ∙ ap (Then h e) (append_assoc sent (d ∷ []) more)
 
-sent_begin : (sent more : List (List ℕ)) → with_moves (Begin sent) (map move.Sent more) ≡ Begin (sent ++ more)
+sent_begin : (sent more : List Outgoing) → with_moves (Begin sent) (map sent_move more) ≡ Begin (sent ++ more)
 unfolding with_moves
 sent_begin sent [] = ap Begin (sym (append-nil sent))
-sent_begin sent (octets ∷ more) = sent_begin (sent ++ octets ∷ []) more ∙ ap Begin (append_assoc sent (octets ∷ []) more)
+sent_begin sent (d ∷ more) = sent_begin (sent ++ d ∷ []) more ∙ ap Begin (append_assoc sent (d ∷ []) more)
 
-pub turns_begin : (sent : List (List ℕ)) → turns_of (map move.Sent sent) ≡ Begin sent
+pub turns_begin : (sent : List Outgoing) → turns_of (map sent_move sent) ≡ Begin sent
 turns_begin sent = sent_begin [] sent
 
-event_then : (h : Turns) (e : Event) (sent : List (List ℕ)) → with_moves h (move_of e ∷ map move.Sent sent) ≡ Then h e sent
+event_then : (h : Turns) (e : Event) (sent : List Outgoing) → with_moves h (move_of e ∷ map sent_move sent) ≡ Then h e sent
 unfolding with_moves
 event_then h (Given d) sent = sent_then h (Given d) [] sent
 event_then h Tick sent = sent_then h Tick [] sent
 
-pub turns_more : (ms : List Move) (e : Event) (sent : List (List ℕ)) → turns_of (ms ++ move_of e ∷ map move.Sent sent) ≡ Then (turns_of ms) e sent
-turns_more ms e sent = with_moves-append (Begin []) ms (move_of e ∷ map move.Sent sent) ∙ event_then (with_moves (Begin []) ms) e sent
+pub turns_more : (ms : List Move) (e : Event) (sent : List Outgoing) → turns_of (ms ++ move_of e ∷ map sent_move sent) ≡ Then (turns_of ms) e sent
+turns_more ms e sent = with_moves-append (Begin []) ms (move_of e ∷ map sent_move sent) ∙ event_then (with_moves (Begin []) ms) e sent
 
 pub sent_none : (h : Turns) → h ≡ with_sent h []
 sent_none (Begin sent) = ap Begin (sym (append-nil sent))
@@ -50,31 +49,31 @@ added_more xs ys s = go s.told
     go None = refl
     go (Some t) = ap (λ (l : List Move). let y : LinkState = record s { told = Some (record t { log = l }) } in y) (append_assoc t.log xs ys)
 
-pub linked_by : (server : Server) (ms : List Move) (s : LinkState) → 0 < length ms → adding ms (with_open server s) ≡ linked server ms s
-linked_by server [] s low = absurd (omega arith)
-linked_by server (m ∷ ms) s low = refl
+pub linked_by : (servers : Servers) (ms : List Move) (s : LinkState) → 0 < length ms → adding ms (with_open servers s) ≡ linked servers ms s
+linked_by servers [] s low = absurd (omega arith)
+linked_by servers (m ∷ ms) s low = refl
 
 pub gave-append : (xs ys : List ℕ) (a b c : Option DiceTold) → GaveAll a xs b → GaveAll b ys c → GaveAll a (xs ++ ys) c
 gave-append [] ys a b c f g = subst (λ x. GaveAll x ys c) f g
 gave-append (x ∷ xs) ys a b c f g = (f.0, f.1, gave-append xs ys f.0 b c f.2 g)
 
-pub drawn-then : (h : Turns) (e : Event) (sent : List (List ℕ)) → drawn (Then h e sent) ≡ drawn h ++ newly_drawn h sent
+pub drawn-then : (h : Turns) (e : Event) (sent : List Outgoing) → drawn (Then h e sent) ≡ drawn h ++ newly_drawn h sent
 drawn-then h e sent = ap (map (λ q. q.id)) (firsts-then h e sent) ∙ map-append (λ q. q.id) (firsts h) (new_among (firsts h) (asked_in sent))
 
 pub nothing_drawn : (h : Turns) (e : Event) → drawn (Then h e []) ≡ drawn h
 unfolding new_among
 nothing_drawn h e = drawn-then h e [] ∙ append-nil (drawn h)
 
--- one question more is sent
-pub sent_more : (qs : List Question) (i : ℕ) (d : Question) (s : LinkState) → i < length qs → adding (move.Sent (octets_of (get_or qs i d)) ∷ []) (adding (map move.Sent (take i (map octets_of qs))) s) ≡ adding (map move.Sent (take (i + 1) (map octets_of qs))) s
-sent_more qs i d s low = added_more (map move.Sent (take i (map octets_of qs))) (move.Sent (octets_of (get_or qs i d)) ∷ []) s ∙ ap (λ l. adding l s) one
+-- one sending more is made
+pub sent_more : (qs : List Sending) (i : ℕ) (d : Sending) (s : LinkState) → i < length qs → adding (sent_move (outgoing_of (get_or qs i d)) ∷ []) (adding (map sent_move (take i (map outgoing_of qs))) s) ≡ adding (map sent_move (take (i + 1) (map outgoing_of qs))) s
+sent_more qs i d s low = added_more (map sent_move (take i (map outgoing_of qs))) (sent_move (outgoing_of (get_or qs i d)) ∷ []) s ∙ ap (λ l. adding l s) one
   where
-    one : map move.Sent (take i (map octets_of qs)) ++ move.Sent (octets_of (get_or qs i d)) ∷ [] ≡ map move.Sent (take (i + 1) (map octets_of qs))
+    one : map sent_move (take i (map outgoing_of qs)) ++ sent_move (outgoing_of (get_or qs i d)) ∷ [] ≡ map sent_move (take (i + 1) (map outgoing_of qs))
     one =
-        ap (λ l. map move.Sent l ++ move.Sent (octets_of (get_or qs i d)) ∷ []) (take-map octets_of i qs)
-        ∙ sym (map-append move.Sent (map octets_of (take i qs)) (octets_of (get_or qs i d) ∷ []))
-        ∙ ap (map move.Sent) (sym (map_more octets_of qs i d low))
-        ∙ ap (map move.Sent) (sym (take-map octets_of (i + 1) qs))
+        ap (λ l. map sent_move l ++ sent_move (outgoing_of (get_or qs i d)) ∷ []) (take-map outgoing_of i qs)
+        ∙ sym (map-append sent_move (map outgoing_of (take i qs)) (outgoing_of (get_or qs i d) ∷ []))
+        ∙ ap (map sent_move) (sym (map_more outgoing_of qs i d low))
+        ∙ ap (map sent_move) (sym (take-map outgoing_of (i + 1) qs))
 
 -- what was received is a move of the link
 pub got_move : (old new : LinkState) (buffer : List ℕ) (g : Got) (e : Event) → HasGot old buffer g new → e ≡ event_got buffer g → new ≡ adding (move_of e ∷ []) old

@@ -1,14 +1,14 @@
 -- In each turn some sends are owed.
 use Rattle.std.proofs.Common.{◌≡◌, ℕ, ◌<◌, Bool, true, false, List, [], ◌∷◌, ◌++◌, map, Option, Some, None, IsTrue, refl, sym, ◌∙◌, ap, subst}
 use Rattle.std.proofs.Common.{lit<}
-use Rattle.std.specs.List.{All, AllByRecursion, cons_option, filter}
+use Rattle.std.specs.List.{All, AllByRecursion, cons_option, filter_map}
 use Rattle.std.proofs.lemmas.List.Elements.{All-head, All-tail, All-nil, All-cons}
 use Rattle.pac_names.specs.Names.{is_lookup_name}
 use Rattle.poll_log.specs.declared.question.Question.{Question}
 use Rattle.poll_log.specs.declared.terms.Terms.{Terms}
-use Rattle.poll_log.specs.Turns.{Turns, Begin, Then, Event}
+use Rattle.poll_log.specs.Turns.{Outgoing, Turns, Begin, Then, Event}
 use mathlib.Core.Path.{fun_ext}
-use Rattle.poll_log.specs.Questions.{IsQuestion, octets_of, firsts, names_of}
+use Rattle.poll_log.specs.Questions.{IsQuestion, first_sending, first_sent, firsts, names_of, outgoing_of}
 use Rattle.poll_log.specs.Told.{Map, told}
 use Rattle.poll_log.specs.Jobs.{IsCut, Job, SendsOwed, WaitsBefore, once, onto_new, wanted}
 use Rattle.poll_log.proofs.TurnLaws.{falls_due, told-begin}
@@ -16,10 +16,11 @@ use Rattle.poll_log.proofs.Names.{once-cons, once-none, has}
 use Rattle.poll_log.proofs.Dues.{owed_begin, owed_then}
 use Rattle.poll_loop.specs.Task.{AsksLookupNames}
 
-abbrev Named : List ℕ → Type 0
+-- the names that jobs lack are lookup names
+abbrev pub Named : List ℕ → Type 0
 Named n = IsTrue (is_lookup_name n)
 
-wanted_named : (jobs : List Job) (M : Map) → All AsksLookupNames jobs → AllByRecursion Named (wanted jobs M)
+pub wanted_named : (jobs : List Job) (M : Map) → All AsksLookupNames jobs → AllByRecursion Named (wanted jobs M)
 wanted_named [] M h = tt
 wanted_named (job ∷ jobs) M h = go (job M) refl (wanted_named jobs M (All-tail AsksLookupNames job jobs h))
   where
@@ -27,7 +28,7 @@ wanted_named (job ∷ jobs) M h = go (job M) refl (wanted_named jobs M (All-tail
     go None e ih = ih
     go (Some n) e ih = (All-head AsksLookupNames job jobs h M n e, ih)
 
-once_named : (seen ns : List (List ℕ)) → AllByRecursion Named ns → AllByRecursion Named (once seen ns)
+pub once_named : (seen ns : List (List ℕ)) → AllByRecursion Named ns → AllByRecursion Named (once seen ns)
 once_named seen [] h = subst (AllByRecursion Named) (sym (once-none seen)) tt
 once_named seen (n ∷ ns) h =
     subst (AllByRecursion Named) (sym (once-cons seen n ns)) (go (has n seen) (once_named seen ns h.1) (once_named (seen ++ n ∷ []) ns h.1))
@@ -48,7 +49,7 @@ all_asked : (ns : List (List ℕ)) → AllByRecursion Named ns → All IsQuestio
 all_asked [] h = All-nil IsQuestion
 all_asked (n ∷ ns) h = All-cons IsQuestion (asking n) (map asking ns) (record { number = lit< tt; name = h.0 }) (all_asked ns h.1)
 
-none_told : (t : Terms) (sent other : List (List ℕ)) → told t (Begin sent) ≡ told t (Begin other)
+none_told : (t : Terms) (sent other : List Outgoing) → told t (Begin sent) ≡ told t (Begin other)
 none_told t sent other = fun_ext (λ n. told-begin t sent n ∙ sym (told-begin t other n))
 
 module _ (t : Terms) (jobs : List Job) (w : 0 < t.wait) (r : 0 < t.tries) (named : All AsksLookupNames jobs) where
@@ -57,8 +58,8 @@ module _ (t : Terms) (jobs : List Job) (w : 0 < t.wait) (r : 0 < t.tries) (named
   cut_begin =
       let ns = once [] (wanted jobs (told t (Begin []))) in
       record {
-        unsent = map octets_of (map asking ns);
-        sends = owed_begin t jobs w r (map asking ns) (names_back ns ∙ ap (λ M. once [] (wanted jobs M)) (none_told t [] (map octets_of (map asking ns)))) (all_asked ns (once_named [] (wanted jobs (told t (Begin []))) (wanted_named jobs (told t (Begin [])) named)));
+        unsent = first_sent (map asking ns);
+        sends = owed_begin t jobs w r (map asking ns) (names_back ns ∙ ap (λ M. once [] (wanted jobs M)) (none_told t [] (first_sent (map asking ns)))) (all_asked ns (once_named [] (wanted jobs (told t (Begin []))) (wanted_named jobs (told t (Begin [])) named)));
         waits = tt;
       }
 
@@ -67,9 +68,9 @@ module _ (t : Terms) (jobs : List Job) (w : 0 < t.wait) (r : 0 < t.tries) (named
   cut_then h e o waits =
       let ns = once (names_of (firsts h)) (wanted jobs (told t (Then h e []))) in
       let fresh = map asking ns in
-      let again = filter (λ q. falls_due t h e q.name) (firsts h ++ fresh) in
+      let again = filter_map (falls_due t h e) (firsts h ++ fresh) in
       record {
-        unsent = map octets_of (fresh ++ again);
+        unsent = map outgoing_of (map first_sending fresh ++ again);
         sends = (o, owed_then t jobs w r h e fresh again o (names_back ns) (all_asked ns (once_named (names_of (firsts h)) (wanted jobs (told t (Then h e []))) (wanted_named jobs (told t (Then h e [])) named))) refl);
         waits = waits;
       }

@@ -5,27 +5,27 @@ use Rattle.std.proofs.lemmas.List.{take-append-drop, length-append}
 use Rattle.pac_ports.specs.Dice.{DiceTold}
 use Rattle.pac_ports.specs.Link.{LinkFails, LinkState, has_move, with_moves as adding, with_open}
 use Rattle.pac_ports.specs.declared.link.Move.{Move}
-use Rattle.pac_ports.specs.declared.link.Move.TheVariants as move
-use Rattle.poll_log.specs.Turns.{Turns, Begin, Then, Event, turns_of, with_moves, with_sent}
+use Rattle.poll_log.specs.Turns.{Outgoing, Turns, Begin, Then, Event, turns_of, with_moves, with_sent}
 use Rattle.poll_log.specs.declared.terms.Terms.{Terms}
 use Rattle.poll_log.specs.declared.question.Question.{Question}
+use Rattle.poll_log.specs.declared.sending.Sending.{Sending}
 use Rattle.poll_log.specs.Beats.{events}
-use Rattle.poll_log.specs.Questions.{drawn, names_of, octets_of}
+use Rattle.poll_log.specs.Questions.{drawn, names_of, outgoing_from, outgoing_of}
 use Rattle.poll_log.specs.Told.{told}
 use Rattle.poll_log.specs.Jobs.{IsCut, Job, SendsOwed, WaitsBefore, some_wait, once, wanted}
 use Rattle.poll_log.proofs.BeatLaws.{events-begin, events-then}
 use Rattle.poll_log.proofs.Bounds.{bounded, cut_few}
 use Rattle.poll_log.proofs.Names.{once-cons, true_false}
 use Rattle.pac_plan.specs.Plan.{Outside, whole, faulted, unfinished}
-use Rattle.poll_loop.specs.Events.{move_of}
+use Rattle.poll_loop.specs.Events.{move_of, sent_move}
 use Rattle.poll_loop.specs.Task.{IsSound, Talk}
 use Rattle.poll_loop.specs.Numbers.{GaveAll, newly_drawn}
 use Rattle.poll_loop.specs.Sending.{SendFails}
 use Rattle.poll_loop.specs.Steps.{Began, Stepped, StepFails}
 use Rattle.poll_loop.specs.Talks.{Talked, most_events}
 use Rattle.poll_loop.specs.Turning.{Polled, Reached, Turned}
-use Rattle.poll_loop.specs.declared.looping.Stop.{Stop}
-use Rattle.poll_loop.specs.declared.looping.Stop.TheVariants as stop
+use Rattle.poll_loop.specs.declared.looping.PollError.{PollError}
+use Rattle.poll_loop.specs.declared.looping.PollError.TheVariants as error
 use Rattle.poll_loop.proofs.Logs.{added_more, drawn-then, gave-append, linked_by, nothing_drawn, sent_none, turns_begin, turns_more}
 use Rattle.poll_loop.proofs.Kept.{few_none}
 use Rattle.poll_loop.proofs.Owing.{cut_then}
@@ -48,7 +48,7 @@ still_unsure a b f u =
     ∙ u
 
 -- a log that a fault cut short
-faulted_by : (talk : Talk) (old : Outside) (link : LinkState) (dice : Option DiceTold) (runs : ℕ) (sound : IsSound talk.task) (log : List Move) (h : Turns) → turns_of log ≡ h → (unsent : List (List ℕ)) → SendsOwed talk.task.terms talk.task.jobs (with_sent h unsent) → WaitsBefore talk.task.terms talk.task.jobs h → some_wait talk.task.terms talk.task.jobs h ≡ true → LinkFails (adding log (with_open talk.server old.link)) link → has_move link ≡ false → GaveAll old.dice (drawn (with_sent h unsent)) dice → runs ≡ old.runs + talk.task.runs (with_sent h unsent) → Talked talk old faulted log (with_all old link dice runs)
+faulted_by : (talk : Talk) (old : Outside) (link : LinkState) (dice : Option DiceTold) (runs : ℕ) (sound : IsSound talk.task) (log : List Move) (h : Turns) → turns_of log ≡ h → (unsent : List Outgoing) → SendsOwed talk.task.terms talk.task.jobs (with_sent h unsent) → WaitsBefore talk.task.terms talk.task.jobs h → some_wait talk.task.terms talk.task.jobs h ≡ true → LinkFails (adding log (with_open talk.servers old.link)) link → has_move link ≡ false → GaveAll old.dice (drawn (with_sent h unsent)) dice → runs ≡ old.runs + talk.task.runs (with_sent h unsent) → Talked talk old faulted log (with_all old link dice runs)
 faulted_by talk old link dice runs sound log h e unsent owed before waits l u drew ran =
     let cut : IsCut talk.task.terms talk.task.jobs (turns_of log) = record {
       unsent = unsent;
@@ -79,9 +79,10 @@ all_done t (job ∷ jobs) e = go (job (told t (Begin []))) (λ k. all_done t job
 
 -- where nothing is owed at the start nobody waits
 none_wait : (t : Terms) (jobs : List Job) → SendsOwed t jobs (Begin []) → some_wait t jobs (Begin []) ≡ false
-none_wait t jobs o = all_done t jobs (wanted_none _ (sym o.asks ∙ ap names_of (fresh_none o.fresh o.again o.octets)))
+unfolding outgoing_from
+none_wait t jobs o = all_done t jobs (wanted_none _ (sym o.asks ∙ ap names_of (fresh_none o.fresh o.again o.out)))
   where
-    fresh_none : (fresh again : List Question) → [] ≡ map octets_of (fresh ++ again) → fresh ≡ []
+    fresh_none : (fresh again : List Question) → [] ≡ outgoing_from [] (fresh ++ again) → fresh ≡ []
     fresh_none [] again e = refl
     fresh_none (q ∷ fresh) again e = cc
 
@@ -89,15 +90,15 @@ none_wait t jobs o = all_done t jobs (wanted_none _ (sym o.asks ∙ ap names_of 
     wanted_none [] e = refl
     wanted_none (n ∷ ns) e = let f : n ∷ once (n ∷ []) ns ≡ [] = sym (once-cons [] n ns) ∙ e in cc
 
-module _ (talk : Talk) (Stands : Turns → Type 0) (old : Outside) (sent : List (List ℕ)) (dice : Option DiceTold) (runs : ℕ) (b : Began Stands talk.task sent old dice runs) where
+module _ (talk : Talk) (Stands : Turns → Type 0) (old : Outside) (sent : List Outgoing) (dice : Option DiceTold) (runs : ℕ) (b : Began Stands talk.task sent old dice runs) where
   -- the first questions were sent
-  pub reached_begin : (link : LinkState) → 0 < length sent → link ≡ adding (map move.Sent sent) (with_open talk.server old.link) → Reached talk Stands old link dice runs 0
+  pub reached_begin : (link : LinkState) → 0 < length sent → link ≡ adding (map sent_move sent) (with_open talk.servers old.link) → Reached talk Stands old link dice runs 0
   reached_begin link some l =
       let e = turns_begin sent in
       record {
         sound = b.sound;
-        moves = map move.Sent sent;
-        begun = (let a = length-map sent move.Sent in omega arith);
+        moves = map sent_move sent;
+        begun = (let a = length-map sent sent_move in omega arith);
         stands = subst Stands (sym e) b.stands;
         sends = subst (SendsOwed talk.task.terms talk.task.jobs) (sym e) b.owed;
         waits = subst (WaitsBefore talk.task.terms talk.task.jobs) (sym e) tt;
@@ -108,11 +109,11 @@ module _ (talk : Talk) (Stands : Turns → Type 0) (old : Outside) (sent : List 
       }
 
   -- the link failed at the first questions
-  pub faulted_begin : (n : ℕ) (link : LinkState) → SendFails (with_open talk.server old.link) sent n link → (log : List Move) × Talked talk old faulted log (with_all old link dice runs)
+  pub faulted_begin : (n : ℕ) (link : LinkState) → SendFails (with_open talk.servers old.link) sent n link → (log : List Move) × Talked talk old faulted log (with_all old link dice runs)
   faulted_begin n link f =
       let whole_turn : take n sent ++ drop n sent ≡ sent = take-append-drop n sent in (
-        map move.Sent (take n sent),
-        faulted_by talk old link dice runs b.sound (map move.Sent (take n sent)) (Begin (take n sent)) (turns_begin (take n sent)) (drop n sent)
+        map sent_move (take n sent),
+        faulted_by talk old link dice runs b.sound (map sent_move (take n sent)) (Begin (take n sent)) (turns_begin (take n sent)) (drop n sent)
             (subst (λ l. SendsOwed talk.task.terms talk.task.jobs (Begin l)) (sym whole_turn) b.owed)
             tt
             (waits_begin talk.task.terms talk.task.jobs b.sound.terms.waits b.sound.terms.tried b.sound.restartable sent b.owed n f.few)
@@ -143,28 +144,28 @@ module _ (talk : Talk) (Stands : Turns → Type 0) (old : Outside) (sent : List 
 
 module _ (talk : Talk) (Stands : Turns → Type 0) (old : Outside) (link : LinkState) (dice : Option DiceTold) (runs count : ℕ) (r : Reached talk Stands old link dice runs count) where
   -- the link after more moves
-  link_more : (more : List Move) → adding more link ≡ adding (r.moves ++ more) (with_open talk.server old.link)
-  link_more more = ap (adding more) r.link_now ∙ added_more r.moves more (with_open talk.server old.link)
+  link_more : (more : List Move) → adding more link ≡ adding (r.moves ++ more) (with_open talk.servers old.link)
+  link_more more = ap (adding more) r.link_now ∙ added_more r.moves more (with_open talk.servers old.link)
 
-  link_event : (e : Event) (sent : List (List ℕ)) → adding (map move.Sent sent) (adding (move_of e ∷ []) link) ≡ adding (r.moves ++ move_of e ∷ map move.Sent sent) (with_open talk.server old.link)
-  link_event e sent = added_more (move_of e ∷ []) (map move.Sent sent) link ∙ link_more (move_of e ∷ map move.Sent sent)
+  link_event : (e : Event) (sent : List Outgoing) → adding (map sent_move sent) (adding (move_of e ∷ []) link) ≡ adding (r.moves ++ move_of e ∷ map sent_move sent) (with_open talk.servers old.link)
+  link_event e sent = added_more (move_of e ∷ []) (map sent_move sent) link ∙ link_more (move_of e ∷ map sent_move sent)
 
-  drew_more : (e : Event) (sent : List (List ℕ)) (dice' : Option DiceTold) → GaveAll dice (newly_drawn (turns_of r.moves) sent) dice' → GaveAll old.dice (drawn (Then (turns_of r.moves) e sent)) dice'
+  drew_more : (e : Event) (sent : List Outgoing) (dice' : Option DiceTold) → GaveAll dice (newly_drawn (turns_of r.moves) sent) dice' → GaveAll old.dice (drawn (Then (turns_of r.moves) e sent)) dice'
   drew_more e sent dice' g =
       subst (λ l. GaveAll old.dice l dice') (sym (drawn-then (turns_of r.moves) e sent))
       (gave-append (drawn (turns_of r.moves)) (newly_drawn (turns_of r.moves) sent) old.dice dice dice' r.drew g)
 
-  ran_more : (e : Event) (sent : List (List ℕ)) (runs' : ℕ) → runs' + talk.task.runs (turns_of r.moves) ≡ runs + talk.task.runs (Then (turns_of r.moves) e sent) → runs' ≡ old.runs + talk.task.runs (Then (turns_of r.moves) e sent)
+  ran_more : (e : Event) (sent : List Outgoing) (runs' : ℕ) → runs' + talk.task.runs (turns_of r.moves) ≡ runs + talk.task.runs (Then (turns_of r.moves) e sent) → runs' ≡ old.runs + talk.task.runs (Then (turns_of r.moves) e sent)
   ran_more e sent runs' x = let a = r.ran in omega arith
 
   -- an event came, and all that is owed after it was sent
-  pub reached_more : (Stands' : Turns → Type 0) (e : Event) (sent : List (List ℕ)) (link' : LinkState) (dice' : Option DiceTold) (runs' : ℕ) → some_wait talk.task.terms talk.task.jobs (turns_of r.moves) ≡ true → Stepped Stands' talk.task (turns_of r.moves) e sent dice dice' runs runs' → link' ≡ adding (map move.Sent sent) (adding (move_of e ∷ []) link) → Reached talk Stands' old link' dice' runs' (count + 1)
+  pub reached_more : (Stands' : Turns → Type 0) (e : Event) (sent : List Outgoing) (link' : LinkState) (dice' : Option DiceTold) (runs' : ℕ) → some_wait talk.task.terms talk.task.jobs (turns_of r.moves) ≡ true → Stepped Stands' talk.task (turns_of r.moves) e sent dice dice' runs runs' → link' ≡ adding (map sent_move sent) (adding (move_of e ∷ []) link) → Reached talk Stands' old link' dice' runs' (count + 1)
   reached_more Stands' e sent link' dice' runs' w s l =
       let f = turns_more r.moves e sent in
       record {
         sound = r.sound;
-        moves = r.moves ++ move_of e ∷ map move.Sent sent;
-        begun = (let a = length-append r.moves (move_of e ∷ map move.Sent sent) in (let b = r.begun in omega arith));
+        moves = r.moves ++ move_of e ∷ map sent_move sent;
+        begun = (let a = length-append r.moves (move_of e ∷ map sent_move sent) in (let b = r.begun in omega arith));
         stands = subst Stands' (sym f) s.stands;
         sends = subst (SendsOwed talk.task.terms talk.task.jobs) (sym f) (r.sends, s.owed);
         waits = subst (WaitsBefore talk.task.terms talk.task.jobs) (sym f) (r.waits, w);
@@ -189,12 +190,12 @@ module _ (talk : Talk) (Stands : Turns → Type 0) (old : Outside) (link : LinkS
   )
 
   -- the link failed where something was to be sent
-  pub faulted_send : (Stands' : Turns → Type 0) (e : Event) (sent : List (List ℕ)) (link' : LinkState) (dice' : Option DiceTold) (runs' : ℕ) → some_wait talk.task.terms talk.task.jobs (turns_of r.moves) ≡ true → Stepped Stands' talk.task (turns_of r.moves) e sent dice dice' runs runs' → (n : ℕ) → SendFails (adding (move_of e ∷ []) link) sent n link' → (log : List Move) × Talked talk old faulted log (with_all old link' dice' runs')
+  pub faulted_send : (Stands' : Turns → Type 0) (e : Event) (sent : List Outgoing) (link' : LinkState) (dice' : Option DiceTold) (runs' : ℕ) → some_wait talk.task.terms talk.task.jobs (turns_of r.moves) ≡ true → Stepped Stands' talk.task (turns_of r.moves) e sent dice dice' runs runs' → (n : ℕ) → SendFails (adding (move_of e ∷ []) link) sent n link' → (log : List Move) × Talked talk old faulted log (with_all old link' dice' runs')
   faulted_send Stands' e sent link' dice' runs' w s n f =
       let h = turns_of r.moves in
       let whole_turn : take n sent ++ drop n sent ≡ sent = take-append-drop n sent in (
-        r.moves ++ move_of e ∷ map move.Sent (take n sent),
-        faulted_by talk old link' dice' runs' r.sound (r.moves ++ move_of e ∷ map move.Sent (take n sent)) (Then h e (take n sent)) (turns_more r.moves e (take n sent)) (drop n sent)
+        r.moves ++ move_of e ∷ map sent_move (take n sent),
+        faulted_by talk old link' dice' runs' r.sound (r.moves ++ move_of e ∷ map sent_move (take n sent)) (Then h e (take n sent)) (turns_more r.moves e (take n sent)) (drop n sent)
             (subst (λ l. SendsOwed talk.task.terms talk.task.jobs (Then h e l)) (sym whole_turn) (r.sends, s.owed))
             (r.waits, w)
             (waits_then talk.task.terms talk.task.jobs r.sound.terms.waits r.sound.terms.tried r.sound.restartable h e sent r.sends s.owed n f.few)
@@ -216,7 +217,7 @@ module _ (talk : Talk) (Stands : Turns → Type 0) (old : Outside) (link : LinkS
           few = (let low = (bounded MOST_NAMES talk.task.terms talk.task.jobs h r.sound.restartable r.sends r.waits).waiting w in (let n = ap events f ∙ events-then h e [] in omega arith));
           ends = inl (record {
             cut = subst (IsCut talk.task.terms talk.task.jobs) (sym f) (cut_then talk.task.terms talk.task.jobs r.sound.terms.waits r.sound.terms.tried r.sound.named h e r.sends (r.waits, w));
-            link = l ∙ link_more (move_of e ∷ []) ∙ linked_by talk.server (r.moves ++ move_of e ∷ []) old.link (let a = length-append r.moves (move_of e ∷ []) in (let b = r.begun in omega arith));
+            link = l ∙ link_more (move_of e ∷ []) ∙ linked_by talk.servers (r.moves ++ move_of e ∷ []) old.link (let a = length-append r.moves (move_of e ∷ []) in (let b = r.begun in omega arith));
             drew = (s.drew.0, subst (λ x. GaveAll old.dice (drawn x ++ s.drew.0) dice') (sym f) (subst (λ d. GaveAll old.dice (d ++ s.drew.0) dice') (sym (nothing_drawn h e)) (gave-append (drawn h) s.drew.0 old.dice dice dice' r.drew s.drew.1)));
             ran = subst (λ x. runs' ≤ old.runs + talk.task.runs x) (sym f) (let a = r.ran in (let b = s.ran in omega arith));
           });
@@ -233,7 +234,7 @@ module _ (talk : Talk) (Stands : Turns → Type 0) (old : Outside) (link : LinkS
       few = (bounded MOST_NAMES talk.task.terms talk.task.jobs (turns_of r.moves) r.sound.restartable r.sends r.waits).few_events;
       ends = record {
         polled = record { sends = r.sends; waits = r.waits; ended = w };
-        link = r.link_now ∙ linked_by talk.server r.moves old.link r.begun;
+        link = r.link_now ∙ linked_by talk.servers r.moves old.link r.begun;
         drew = r.drew;
         ran = r.ran;
       };
@@ -252,17 +253,17 @@ module _ (talk : Talk) (Stands : Turns → Type 0) (old : Outside) (link : LinkS
       go false w = refl
 
   -- the same as the code has it: what was answered is what is sent
-  module _ (Stands' : Turns → Type 0) (e : Event) (mid : LinkState) (here : mid ≡ adding (move_of e ∷ []) link) (qs qs' : List Question) (same : qs' ≡ qs) (dice' : Option DiceTold) (runs' : ℕ) (w : some_wait talk.task.terms talk.task.jobs (turns_of r.moves) ≡ true) (s : Stepped Stands' talk.task (turns_of r.moves) e (map octets_of qs) dice dice' runs runs') (link' : LinkState) where
-    pub sent_more_turn : link' ≡ adding (map move.Sent (map octets_of qs')) mid → Reached talk Stands' old link' dice' runs' (count + 1)
-    sent_more_turn l = reached_more Stands' e (map octets_of qs) link' dice' runs' w s (l ∙ ap (λ x. adding (map move.Sent (map octets_of x)) mid) same ∙ ap (adding (map move.Sent (map octets_of qs))) here)
+  module _ (Stands' : Turns → Type 0) (e : Event) (mid : LinkState) (here : mid ≡ adding (move_of e ∷ []) link) (qs qs' : List Sending) (same : qs' ≡ qs) (dice' : Option DiceTold) (runs' : ℕ) (w : some_wait talk.task.terms talk.task.jobs (turns_of r.moves) ≡ true) (s : Stepped Stands' talk.task (turns_of r.moves) e (map outgoing_of qs) dice dice' runs runs') (link' : LinkState) where
+    pub sent_more_turn : link' ≡ adding (map sent_move (map outgoing_of qs')) mid → Reached talk Stands' old link' dice' runs' (count + 1)
+    sent_more_turn l = reached_more Stands' e (map outgoing_of qs) link' dice' runs' w s (l ∙ ap (λ x. adding (map sent_move (map outgoing_of x)) mid) same ∙ ap (adding (map sent_move (map outgoing_of qs))) here)
 
-    pub faulted_send_turn : (n : ℕ) × SendFails mid (map octets_of qs') n link' → (log : List Move) × Talked talk old faulted log (with_all old link' dice' runs')
-    faulted_send_turn f = faulted_send Stands' e (map octets_of qs) link' dice' runs' w s f.0 (subst (λ x. SendFails x (map octets_of qs) f.0 link') here (subst (λ x. SendFails mid (map octets_of x) f.0 link') same f.1))
+    pub faulted_send_turn : (n : ℕ) × SendFails mid (map outgoing_of qs') n link' → (log : List Move) × Talked talk old faulted log (with_all old link' dice' runs')
+    faulted_send_turn f = faulted_send Stands' e (map outgoing_of qs) link' dice' runs' w s f.0 (subst (λ x. SendFails x (map outgoing_of qs) f.0 link') here (subst (λ x. SendFails mid (map outgoing_of x) f.0 link') same f.1))
 
 -- from a turn to the whole
-pub stopped : (talk : Talk) (Stands : Turns → Type 0) (old : Outside) (why : Stop) (link : LinkState) (dice : Option DiceTold) (runs count : ℕ) → Turned talk Stands old (Err why) link dice runs count → Polled talk Stands old (Err why) (with_all old link dice runs)
-stopped talk Stands old stop.Link link dice runs count t = t
-stopped talk Stands old stop.Memory link dice runs count t = t
+pub stopped : (talk : Talk) (Stands : Turns → Type 0) (old : Outside) (why : PollError) (link : LinkState) (dice : Option DiceTold) (runs count : ℕ) → Turned talk Stands old (Err why) link dice runs count → Polled talk Stands old (Err why) (with_all old link dice runs)
+stopped talk Stands old error.Link link dice runs count t = t
+stopped talk Stands old error.Memory link dice runs count t = t
 
 pub waits_if_not : (b w : Bool) → b ≡ not w → b ≡ false → w ≡ true
 waits_if_not b true e f = refl
@@ -272,6 +273,6 @@ pub ended_if : (b w : Bool) → b ≡ not w → b ≡ true → w ≡ false
 ended_if b true e f = true_false (sym f ∙ e)
 ended_if b false e f = refl
 
-pub none_sent : (qs : List Question) → length qs ≡ 0 → map octets_of qs ≡ []
+pub none_sent : (qs : List Sending) → length qs ≡ 0 → map outgoing_of qs ≡ []
 none_sent [] e = refl
 none_sent (q ∷ qs) e = absurd (omega arith)

@@ -1,25 +1,27 @@
 -- While something that is owed is still to be sent, some job waits.
-use Rattle.std.proofs.Common.{◌≡◌, ℕ, zero, suc, ◌+◌, ◌<◌, ◌≤◌, Bool, true, false, cond, ◌||◌, ◌&&◌, not, List, [], ◌∷◌, ◌++◌, map, take, length, nat_lt, Option, Some, None, is_none, ◌⊎◌, inl, inr, refl, sym, ◌∙◌, ap, subst, arith, append_assoc, nat_le}
+use Rattle.std.proofs.Common.{◌≡◌, ℕ, zero, suc, ◌+◌, ◌<◌, ◌≤◌, Bool, true, false, cond, ◌||◌, ◌&&◌, not, List, [], ◌∷◌, ◌++◌, take, length, nat_lt, Option, Some, None, is_none, ◌⊎◌, inl, inr, refl, sym, ◌∙◌, ap, subst, arith, append_assoc, nat_le}
 use Rattle.std.specs.List.{All, cons_option, filter, list_any}
 use Rattle.std.proofs.lemmas.Bool.Decides.{nat_tests}
-use Rattle.std.proofs.lemmas.List.{append-nil, length-map, take-map}
+use Rattle.std.proofs.lemmas.List.{append-nil}
 use Rattle.std.proofs.lemmas.List.Elements.{All-head, All-nil, All-tail, All-take}
 use Rattle.pac_names.specs.declared.answer.Answer.{Answer}
 use Rattle.poll_log.specs.declared.question.Question.{Question}
 use Rattle.poll_log.specs.declared.terms.Terms.{Terms}
-use Rattle.poll_log.specs.Turns.{Turns, Begin, Then, Event}
+use Rattle.poll_log.specs.Turns.{Outgoing, Turns, Begin, Then, Event}
 use Rattle.poll_log.specs.Beats.{is_beat}
-use Rattle.poll_log.specs.Questions.{IsQuestion, asked_in, octets_of, firsts, questions, names_of, new_among, same_name, has_name, was_sent}
-use Rattle.poll_log.specs.Told.{Map, told, age, is_dead, limit, due_sends}
+use Rattle.poll_log.specs.Questions.{IsQuestion, asked_in, outgoing_from, firsts, questions, names_of, new_among, same_name, has_name, was_sent}
+use Rattle.poll_log.specs.Sendings.{limit}
+use Rattle.poll_log.specs.Told.{Map, told, age, is_dead, due_sends}
 use Rattle.poll_log.specs.Jobs.{IsOwed, Job, SendsOwed, onto_new, once, some_wait, waits_unless, wanted}
 use Rattle.poll_log.specs.Laws.{Extends, IsRestartable}
 use Rattle.poll_log.proofs.Names.{AllNew, has, has-names, has_name-append, new_among-new, none_some, once-cons, once-none, or-first, or-second, same_is, same_itself, true_false}
-use Rattle.poll_log.proofs.Asking.{asked_in-octets}
+use Rattle.poll_log.proofs.Asking.{asked_in-outgoing}
+use Rattle.poll_log.proofs.Outgoing.{length-outgoing, take-outgoing}
 use Rattle.poll_log.proofs.Counts.{seen_here}
 use mathlib.Core.Path.{fun_ext}
 use Rattle.poll_log.proofs.Bounds.{alive_if_young, extends_next}
 use Rattle.poll_log.proofs.Dues.{again_are, all_proper, firsts_next, firsts_of_begin, firsts_proper, fresh_new, sent_as_due}
-use Rattle.poll_log.proofs.TurnLaws.{age_next, age_unsent, due_begin, due_next, due_unsent, falls_due, firsts-begin, firsts-then, told_by_event, told-begin}
+use Rattle.poll_log.proofs.TurnLaws.{age_next, age_unsent, due_begin, due_next, due_unsent, falls_at, firsts-begin, firsts-then, told_by_event, told-begin}
 use Rattle.pac_names.specs.declared.limits.TheConstants.{MOST_NAMES}
 
 -- What is wanted.
@@ -146,37 +148,36 @@ unfolding is_dead
 unsent_alive t h n k = ap (λ b. (b && is_none (told t h n)) && nat_le (limit t) (age h n)) k
 
 -- What is to be sent next, where the first k of these sends were sent.
-record Unsent (fresh again : List Question) (sent : List (List ℕ)) (k : ℕ) : Type 0 where
+record Unsent (earlier fresh again : List Question) (sent : List Outgoing) (k : ℕ) : Type 0 where
   pub next : Question
   pub kind : IsNew fresh (take k (fresh ++ again)) next ⊎ IsAgain fresh again (take k (fresh ++ again)) next
-  pub part : take k sent ≡ map octets_of (take k (fresh ++ again))
+  pub part : take k sent ≡ outgoing_from earlier (take k (fresh ++ again))
 
-unsent : (fresh again : List Question) (sent : List (List ℕ)) (k : ℕ) → sent ≡ map octets_of (fresh ++ again) → k < length sent → Unsent fresh again sent k
-unsent fresh again sent k e low =
-    let a : length sent ≡ length (map octets_of (fresh ++ again)) = ap length e in
-    let b : length (map octets_of (fresh ++ again)) ≡ length (fresh ++ again) = length-map (fresh ++ again) octets_of in
+unsent : (earlier fresh again : List Question) (sent : List Outgoing) (k : ℕ) → sent ≡ outgoing_from earlier (fresh ++ again) → k < length sent → Unsent earlier fresh again sent k
+unsent earlier fresh again sent k e low =
+    let all : length sent ≡ length (fresh ++ again) = ap length e ∙ length-outgoing earlier (fresh ++ again) in
     let p = place (fresh ++ again) k (omega arith) in
     record {
       next = p.next;
       kind = new_or_again fresh again (take k (fresh ++ again)) p.rest p.next p.parts;
-      part = ap (take k) e ∙ take-map octets_of k (fresh ++ again);
+      part = ap (take k) e ∙ take-outgoing k earlier (fresh ++ again);
     }
 
 -- a new question of which only those before it were sent
-module _ (t : Terms) (before fresh : List Question) (new : AllNew before fresh) (turns : Turns) where
-  new_alive : (q : Question) (pre : List Question) → IsNew fresh pre q → All IsQuestion pre → firsts turns ≡ before ++ new_among before (asked_in (map octets_of pre)) → is_dead t turns q.name ≡ false
+module _ (t : Terms) (earlier before fresh : List Question) (new : AllNew before fresh) (turns : Turns) where
+  new_alive : (q : Question) (pre : List Question) → IsNew fresh pre q → All IsQuestion pre → firsts turns ≡ before ++ new_among before (asked_in (outgoing_from earlier pre)) → is_dead t turns q.name ≡ false
   new_alive q pre n proper f =
       let r = front_new before pre n.post q (subst (AllNew before) n.parts new) in
       unsent_alive t turns q.name
-      (ap (has_name q.name) (f ∙ ap (λ l. before ++ new_among before l) (asked_in-octets pre proper) ∙ ap (λ l. before ++ l) (ap (new_among before) (sym (append-nil pre)) ∙ new_among-new before pre [] r.0 tt)) ∙ r.1)
+      (ap (has_name q.name) (f ∙ ap (λ l. before ++ new_among before l) (asked_in-outgoing earlier pre proper) ∙ ap (λ l. before ++ l) (ap (new_among before) (sym (append-nil pre)) ∙ new_among-new before pre [] r.0 tt)) ∙ r.1)
 
 -- Something is still to be sent in a later turn.
 module _ (t : Terms) (jobs : List Job) (w : 0 < t.wait) (r : 0 < t.tries) (laws : All (IsRestartable MOST_NAMES) jobs) where
-  module _ (h : Turns) (e : Event) (sent : List (List ℕ)) (o : SendsOwed t jobs h) (now : IsOwed t jobs (questions h) (firsts h) (Then h e sent) sent) where
-    falling : now.again ≡ filter (λ q. falls_due t h e q.name) (firsts h ++ now.fresh)
+  module _ (h : Turns) (e : Event) (sent : List Outgoing) (o : SendsOwed t jobs h) (now : IsOwed t jobs (questions h) (firsts h) (Then h e sent) sent) where
+    falling : now.again ≡ filter (λ q. falls_at t h e q.name) (firsts h ++ now.fresh)
     falling =
         now.repeats
-        ∙ again_are t (questions h) (firsts h) now.fresh (Then h e sent) (fresh_new t jobs (questions h) (firsts h) (Then h e sent) sent now (firsts_proper t jobs h o)) (due_sends t h) (falls_due t h e) (sent_as_due t jobs w r h o) (due_unsent t w r h) (λ m k. due_next t w r h e sent m (ap (has_name m) (firsts_next t jobs h e sent o now) ∙ k))
+        ∙ again_are t (questions h) (firsts h) now.fresh (Then h e sent) (fresh_new t jobs (questions h) (firsts h) (Then h e sent) sent now (firsts_proper t jobs h o)) (due_sends t h) (falls_at t h e) (sent_as_due t jobs w r h o) (due_unsent t w r h) (λ m k. due_next t w r h e sent m (ap (has_name m) (firsts_next t jobs h e sent o now) ∙ k))
 
     parts_true : (a b c d : Bool) → (a && ((b && c) && d)) ≡ true → (b ≡ true) × (c ≡ true)
     parts_true true true true d e = (refl, refl)
@@ -191,7 +192,7 @@ module _ (t : Terms) (jobs : List Job) (w : 0 < t.wait) (r : 0 < t.tries) (laws 
     none_is None e = refl
     none_is (Some x) e = true_false (sym e)
 
-    aged_at_most : (part : List (List ℕ)) (n : List ℕ) → age (Then h e part) n ≤ age h n + 1
+    aged_at_most : (part : List Outgoing) (n : List ℕ) → age (Then h e part) n ≤ age h n + 1
     aged_at_most part n = go (was_sent (Then h e part) n) refl
       where
         beat_at_most : (b : Bool) → cond b 1 0 ≤ 1
@@ -208,8 +209,8 @@ module _ (t : Terms) (jobs : List Job) (w : 0 < t.wait) (r : 0 < t.tries) (laws 
         qs : List Question
         qs = now.fresh ++ now.again
 
-        p : Unsent now.fresh now.again sent k
-        p = unsent now.fresh now.again sent k now.octets low
+        p : Unsent (questions h) now.fresh now.again sent k
+        p = unsent (questions h) now.fresh now.again sent k now.out low
 
         n : List ℕ
         n = p.next.name
@@ -226,11 +227,11 @@ module _ (t : Terms) (jobs : List Job) (w : 0 < t.wait) (r : 0 < t.tries) (laws 
         go : IsNew now.fresh (take k qs) p.next ⊎ IsAgain now.fresh now.again (take k qs) p.next → some_wait t jobs T ≡ true
         go (inl new) =
             waiting
-            (new_alive t (firsts h) now.fresh (fresh_new t jobs (questions h) (firsts h) (Then h e sent) sent now proper) T p.next (take k qs) new
+            (new_alive t (questions h) (firsts h) now.fresh (fresh_new t jobs (questions h) (firsts h) (Then h e sent) sent now proper) T p.next (take k qs) new
             (All-take IsQuestion k qs (all_proper t jobs (questions h) (firsts h) (Then h e sent) sent now proper)) (firsts-then h e (take k sent) ∙ ap (λ l. firsts h ++ new_among (firsts h) (asked_in l)) p.part))
             (fresh_wanted t jobs laws (firsts h) now.fresh (told t (Then h e sent)) n now.asks (ap (has_name n) new.parts ∙ seen_here (take k qs) p.next new.post))
         go (inr again) =
-            let found = in_filter (λ q. falls_due t h e q.name) (firsts h ++ now.fresh) again.front again.back p.next (sym falling ∙ again.parts) in
+            let found = in_filter (λ q. falls_at t h e q.name) (firsts h ++ now.fresh) again.front again.back p.next (sym falling ∙ again.parts) in
             let due = parts_true _ _ _ _ found.0 in
             let old : age T n ≤ age h n + 1 = aged_at_most (take k sent) n in
             let young : age h n + 1 < limit t = below (age h n + 1) (limit t) due.1 in
@@ -238,7 +239,7 @@ module _ (t : Terms) (jobs : List Job) (w : 0 < t.wait) (r : 0 < t.tries) (laws 
             waiting (alive_if_young t T n (omega arith)) (sent_wanted t jobs laws (Then h e sent) (o, now) n (ap (has_name n) (firsts_next t jobs h e sent o now) ∙ found.1) untold)
 
   -- Something is still to be sent at the start.
-  module _ (sent : List (List ℕ)) (now : IsOwed t jobs [] [] (Begin sent) sent) where
+  module _ (sent : List Outgoing) (now : IsOwed t jobs [] [] (Begin sent) sent) where
     none_again : now.again ≡ filter (λ q. false) now.fresh
     none_again = now.repeats ∙ again_are t [] [] now.fresh (Begin sent) (fresh_new t jobs [] [] (Begin sent) sent now (All-nil IsQuestion)) (λ m. 1) (λ m. false) (λ m. refl) (λ m k. refl) (λ m k. due_begin t w r sent m)
 
@@ -248,8 +249,8 @@ module _ (t : Terms) (jobs : List Job) (w : 0 < t.wait) (r : 0 < t.tries) (laws 
         qs : List Question
         qs = now.fresh ++ now.again
 
-        p : Unsent now.fresh now.again sent k
-        p = unsent now.fresh now.again sent k now.octets low
+        p : Unsent [] now.fresh now.again sent k
+        p = unsent [] now.fresh now.again sent k now.out low
 
         n : List ℕ
         n = p.next.name
@@ -263,7 +264,7 @@ module _ (t : Terms) (jobs : List Job) (w : 0 < t.wait) (r : 0 < t.tries) (laws 
         go : IsNew now.fresh (take k qs) p.next ⊎ IsAgain now.fresh now.again (take k qs) p.next → some_wait t jobs T ≡ true
         go (inl new) =
             some_wants (told t T) (is_dead t T) n
-            (new_alive t [] now.fresh (fresh_new t jobs [] [] (Begin sent) sent now (All-nil IsQuestion)) T p.next (take k qs) new
+            (new_alive t [] [] now.fresh (fresh_new t jobs [] [] (Begin sent) sent now (All-nil IsQuestion)) T p.next (take k qs) new
             (All-take IsQuestion k qs (all_proper t jobs [] [] (Begin sent) sent now (All-nil IsQuestion))) (firsts-begin (take k sent) ∙ ap (λ l. new_among [] (asked_in l)) p.part))
             jobs
             (ap (λ M. has n (wanted jobs M)) same ∙ fresh_wanted t jobs laws [] now.fresh (told t (Begin sent)) n now.asks (ap (has_name n) new.parts ∙ seen_here (take k qs) p.next new.post))

@@ -22,6 +22,10 @@ abbrev pub IsWithin : Got → Type 0
 IsWithin (got.Datagram n) = n ≤ 512
 IsWithin got.Tick = Unit {0}
 
+-- the move over a link that a sent datagram is
+abbrev pub sent_move : log.Outgoing → Move
+sent_move d = move.Sent d.to d.octets
+
 -- the move over a link that an event is
 abbrev pub move_of : log.Event → Move
 move_of (log.Given octets) = move.Given octets

@@ -3,27 +3,27 @@ use Rattle.std.specs.Prelude.{◌≡◌, ◌⊎◌, ℕ, ◌+◌, ◌*◌, ◌�
 use Rattle.pac_names.specs.declared.limits.TheConstants.{MOST_NAMES}
 use Rattle.pac_ports.specs.Link.{LinkState, LinkFails, has_move, with_moves, with_open}
 use Rattle.pac_ports.specs.declared.link.Move.{Move}
-use Rattle.pac_ports.specs.declared.link.Server.{Server}
+use Rattle.pac_ports.specs.declared.link.Servers.{Servers}
 use Rattle.poll_log.specs.declared.terms.TheConstants.{FLOOD}
 use Rattle.poll_log.specs.declared.terms.Terms.{Terms}
 use Rattle.poll_log.specs.Turns.{turns_of, with_sent}
 use Rattle.poll_log.specs.Beats.{events}
 use Rattle.poll_log.specs.Questions.{drawn}
-use Rattle.poll_log.specs.Told.{limit}
+use Rattle.poll_log.specs.Sendings.{limit}
 use Rattle.poll_log.specs.Jobs.{IsCut, IsPolled, some_wait}
 use Rattle.pac_plan.specs.Plan.{End, Outside, whole, faulted, unfinished}
 use Rattle.poll_loop.specs.Task.{Talk}
 use Rattle.poll_loop.specs.Numbers.{GaveAll}
 
--- The link after these moves: opened once, to the server, before the first. Without moves it is as it was.
-abbrev pub linked : Server → List Move → LinkState → LinkState
-linked server [] link = link
-linked server (m ∷ moves) link = with_moves (m ∷ moves) (with_open server link)
+-- The link after these moves: opened once, to the servers, before the first. Without moves it is as it was.
+abbrev pub linked : Servers → List Move → LinkState → LinkState
+linked servers [] link = link
+linked servers (m ∷ moves) link = with_moves (m ∷ moves) (with_open servers link)
 
 -- Nobody waits any more.
 pub record EndsWhole (talk : Talk) (old : Outside) (log : List Move) (new : Outside) : Type 0 where
   pub polled : IsPolled talk.task.terms talk.task.jobs (turns_of log)
-  pub link : new.link ≡ linked talk.server log old.link
+  pub link : new.link ≡ linked talk.servers log old.link
   -- the j-th name that was sent first carries the j-th number of the dice
   pub drew : GaveAll old.dice (drawn (turns_of log)) new.dice
   pub ran : new.runs ≡ old.runs + talk.task.runs (turns_of log)
@@ -32,7 +32,7 @@ pub record EndsWhole (talk : Talk) (old : Outside) (log : List Move) (new : Outs
 pub record EndsByFault (talk : Talk) (old : Outside) (log : List Move) (new : Outside) : Type 0 where
   pub cut : IsCut talk.task.terms talk.task.jobs (turns_of log)
   pub waits : some_wait talk.task.terms talk.task.jobs (turns_of log) ≡ true
-  pub link : LinkFails (with_moves log (with_open talk.server old.link)) new.link
+  pub link : LinkFails (with_moves log (with_open talk.servers old.link)) new.link
   pub unsure : has_move new.link ≡ false
   pub drew : GaveAll old.dice (drawn (with_sent (turns_of log) cut.unsent)) new.dice
   pub ran : new.runs ≡ old.runs + talk.task.runs (turns_of log)
@@ -40,7 +40,7 @@ pub record EndsByFault (talk : Talk) (old : Outside) (log : List Move) (new : Ou
 -- Memory ran out.
 pub record EndsForMemory (talk : Talk) (old : Outside) (log : List Move) (new : Outside) : Type 0 where
   pub cut : IsCut talk.task.terms talk.task.jobs (turns_of log)
-  pub link : new.link ≡ linked talk.server log old.link
+  pub link : new.link ≡ linked talk.servers log old.link
   -- numbers may have been drawn for names that were not sent
   pub drew : (more : List ℕ) × GaveAll old.dice (drawn (turns_of log) ++ more) new.dice
   pub ran : new.runs ≤ old.runs + talk.task.runs (turns_of log)

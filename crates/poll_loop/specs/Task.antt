@@ -2,9 +2,9 @@
 use Rattle.std.specs.Prelude.{◌≡◌, ℕ, ◌<◌, IsTrue, Some, List}
 use Rattle.std.specs.List.{All}
 use Rattle.pac_names.specs.Names.{is_lookup_name}
-use Rattle.pac_ports.specs.declared.link.Server.{Server}
+use Rattle.pac_ports.specs.declared.link.Servers.{Servers}
 use Rattle.poll_log.specs.declared.terms.Terms.{Terms}
-use Rattle.poll_log.specs.Turns.{Turns, with_sent}
+use Rattle.poll_log.specs.Turns.{Outgoing, Turns, with_sent}
 use Rattle.poll_log.specs.Told.{Map}
 use Rattle.poll_log.specs.Jobs.{Job}
 use Rattle.poll_log.specs.Laws.{IsRestartable}
@@ -18,9 +18,9 @@ pub record Task : Type 0 where
   -- how many runs a log costs
   pub runs : Turns → ℕ
 
--- a task, and the server that is asked
+-- a task, and the servers that are asked
 pub record Talk : Type 0 where
-  pub server : Server
+  pub servers : Servers
   pub task : Task
 
 -- the job lacks lookup names alone
@@ -38,4 +38,4 @@ pub record IsSound (task : Task) : Type 0 where
   pub named : All AsksLookupNames task.jobs
   pub restartable : All (IsRestartable MOST_NAMES) task.jobs
   -- what is sent in a turn costs no run
-  pub unsent_runs : (turns : Turns) (sent : List (List ℕ)) → task.runs (with_sent turns sent) ≡ task.runs turns
+  pub unsent_runs : (turns : Turns) (sent : List Outgoing) → task.runs (with_sent turns sent) ≡ task.runs turns

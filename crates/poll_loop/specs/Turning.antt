@@ -11,8 +11,8 @@ use Rattle.pac_plan.specs.Plan.{Outside, whole, faulted, unfinished}
 use Rattle.poll_loop.specs.Task.{IsSound, Talk}
 use Rattle.poll_loop.specs.Numbers.{GaveAll}
 use Rattle.poll_loop.specs.Talks.{Talked}
-use Rattle.poll_loop.specs.declared.looping.Stop.{Stop}
-use Rattle.poll_loop.specs.declared.looping.Stop.TheVariants as stop
+use Rattle.poll_loop.specs.declared.looping.PollError.{PollError}
+use Rattle.poll_loop.specs.declared.looping.PollError.TheVariants as error
 
 -- So many events came, each while some job waited, and all that is owed was sent.
 pub record Reached (talk : Talk) (Stands : Turns → Type 0) (old : Outside) (link : LinkState) (dice : Option DiceTold) (runs count : ℕ) : Type 0 where
@@ -23,18 +23,18 @@ pub record Reached (talk : Talk) (Stands : Turns → Type 0) (old : Outside) (li
   pub sends : SendsOwed talk.task.terms talk.task.jobs (turns_of moves)
   pub waits : WaitsBefore talk.task.terms talk.task.jobs (turns_of moves)
   pub counted : events (turns_of moves) ≡ count
-  pub link_now : link ≡ with_moves moves (with_open talk.server old.link)
+  pub link_now : link ≡ with_moves moves (with_open talk.servers old.link)
   pub drew : GaveAll old.dice (drawn (turns_of moves)) dice
   pub ran : runs ≡ old.runs + talk.task.runs (turns_of moves)
 
 -- the talk ended by this log, and where it went to its end the poller stands for that log
-abbrev pub Polled : Talk → (Turns → Type 0) → Outside → Result (Unit {0}) Stop → Outside → Type 0
+abbrev pub Polled : Talk → (Turns → Type 0) → Outside → Result (Unit {0}) PollError → Outside → Type 0
 Polled talk Stands old (Ok u) new = (log : List Move) × Talked talk old whole log new × Stands (turns_of log)
-Polled talk Stands old (Err stop.Link) new = (log : List Move) × Talked talk old faulted log new
-Polled talk Stands old (Err stop.Memory) new = (log : List Move) × Talked talk old unfinished log new
+Polled talk Stands old (Err error.Link) new = (log : List Move) × Talked talk old faulted log new
+Polled talk Stands old (Err error.Memory) new = (log : List Move) × Talked talk old unfinished log new
 
 -- so many events came, or the talk ended
-abbrev pub Turned : Talk → (Turns → Type 0) → Outside → Result (Unit {0}) Stop → LinkState → Option DiceTold → ℕ → ℕ → Type 0
+abbrev pub Turned : Talk → (Turns → Type 0) → Outside → Result (Unit {0}) PollError → LinkState → Option DiceTold → ℕ → ℕ → Type 0
 Turned talk Stands old (Ok u) link dice runs count = Reached talk Stands old link dice runs count
-Turned talk Stands old (Err stop.Link) link dice runs count = (log : List Move) × Talked talk old faulted log (record old { link = link; dice = dice; runs = runs })
-Turned talk Stands old (Err stop.Memory) link dice runs count = (log : List Move) × Talked talk old unfinished log (record old { link = link; dice = dice; runs = runs })
+Turned talk Stands old (Err error.Link) link dice runs count = (log : List Move) × Talked talk old faulted log (record old { link = link; dice = dice; runs = runs })
+Turned talk Stands old (Err error.Memory) link dice runs count = (log : List Move) × Talked talk old unfinished log (record old { link = link; dice = dice; runs = runs })

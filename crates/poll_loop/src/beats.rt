@@ -1,6 +1,6 @@
 // Which events are beats.
-ghost use Rattle.std.specs.Prelude.{◌≡◌, List, ℕ};
-ghost use Rattle.poll_log.specs.Turns.{Turns, Then};
+ghost use Rattle.std.specs.Prelude.{◌≡◌, List};
+ghost use Rattle.poll_log.specs.Turns.{Outgoing, Turns, Then};
 ghost use Rattle.poll_log.specs.Beats.{is_beat};
 ghost use Rattle.poll_loop.specs.Events.{event_of};
 ghost use Rattle.poll_loop.specs.Counting.{HasCounted};
@@ -34,7 +34,7 @@ impl BeatCounter {
     /// Counts an event, and answers whether it is a beat.
     pub fn count(&mut self, event: Event<'_>) -> bool
         ensures beat { (turns : Turns) → HasCounted self.old turns → result ≡ is_beat turns (event_of event.entry) }
-        ensures counted { (turns : Turns) (sent : List (List ℕ)) → HasCounted self.old turns →
+        ensures counted { (turns : Turns) (sent : List Outgoing) → HasCounted self.old turns →
             HasCounted self.new (Then turns (event_of event.entry) sent) }
     {
         match event {

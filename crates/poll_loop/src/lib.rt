@@ -1,4 +1,4 @@
-//! The loop that polls a server over a link until nobody waits for an answer.
+//! The loop that polls two servers over a link until nobody waits for an answer.
 //!
 //! A `Poller` says what is to be sent after each event; `poll` opens the link, sends and receives, at most as often as
 //! the bound. What it leaves is a log that is polled, or cut short at a fault, by the definitions of poll_log. A
@@ -16,5 +16,5 @@ mod sending;
 pub use beats::BeatCounter;
 pub use event::Event;
 pub use laws::unfinished_is_cut;
-pub use looping::{Asking, Stop, poll};
+pub use looping::{PollError, Upstream, poll};
 pub use poller::Poller;

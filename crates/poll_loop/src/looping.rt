@@ -1,10 +1,9 @@
 // The loop.
 ghost use Rattle.std.specs.Prelude.{◌≡◌, ℕ, ◌+◌, ◌*◌, ◌<◌, ◌≤◌, OnOk, length, map, true};
 ghost use Rattle.pac_plan.specs.Plan.{Outside};
-ghost use Rattle.poll_log.specs.declared.terms.TheConstants.{MOST_TRIES, MOST_WAIT};
 ghost use Rattle.poll_log.specs.Turns.{turns_of};
-ghost use Rattle.poll_log.specs.Questions.{octets_of};
-ghost use Rattle.poll_log.specs.Told.{limit};
+ghost use Rattle.poll_log.specs.Questions.{outgoing_of};
+ghost use Rattle.poll_log.specs.Sendings.{AreTerms};
 ghost use Rattle.poll_log.specs.Jobs.{some_wait};
 ghost use Rattle.poll_loop.specs.Task.{Talk};
 ghost use Rattle.poll_loop.specs.Sending.{HasBegun};
@@ -15,25 +14,26 @@ use crate::Poller;
 use crate::event::event_in;
 use crate::sending::send_all;
 use pac_names::MOST_NAMES;
-use pac_ports::{Dice, Failed, Link, Server};
-use poll_log::{FLOOD, Question, Terms};
+use pac_ports::{Dice, Failed, Link, Servers};
+use poll_log::{FLOOD, Sending, Terms};
 use std::alloc::Global;
 use std::sync::ledger::Ledger;
 use step_counter::Steps;
+use thiserror::Error;
 
-/// Whom to ask, and how often.
+/// The servers that are asked, and when.
 #[derive(Clone, Copy, Debug, PartialEq, Eq)]
-pub struct Asking {
-    pub server: Server,
+pub struct Upstream {
+    pub servers: Servers,
     pub terms: Terms,
 }
 
 /// Why polling ended early.
-#[derive(Clone, Copy, Debug, PartialEq, Eq)]
-pub enum Stop {
-    /// The link failed.
+#[derive(Clone, Copy, Debug, PartialEq, Eq, Error)]
+pub enum PollError {
+    #[error("the link failed")]
     Link,
-    /// Memory ran out.
+    #[error("memory ran out")]
     Memory,
 }
 
@@ -42,16 +42,16 @@ pub enum Stop {
 pub fn poll<P: Poller, N: Link, D: Dice, L: Ledger>(
     alloc: Global,
     poller: &mut P,
-    first: &[Question],
-    asking: Asking,
+    first: &[Sending],
+    upstream: Upstream,
     link: &mut N,
     dice: &mut D,
     runs: &mut Steps<L>,
-) -> Result<(), Stop>
-    requires lasts { limit asking.terms ≤ MOST_WAIT * MOST_TRIES }
-    ensures polled { (talk : Talk) (old : Outside) → talk.server ≡ asking.server → talk.task.terms ≡ asking.terms →
+) -> Result<(), PollError>
+    requires { AreTerms upstream.terms }
+    ensures polled { (talk : Talk) (old : Outside) → talk.servers ≡ upstream.servers → talk.task.terms ≡ upstream.terms →
         old.link ≡ N.state link.old →
-        Began (P.stands poller.old talk.task) talk.task (map octets_of first.now) old (D.told dice.old) runs.old →
+        Began (P.stands poller.old talk.task) talk.task (map outgoing_of first.now) old (D.told dice.old) runs.old →
         Polled talk (P.stands poller.new talk.task) old result
         (record old { link = N.state link.new; dice = D.told dice.new; runs = runs.new }) }
     ensures kept { OnOk result (P.kept poller.new ≡ P.kept poller.old) }
@@ -59,17 +59,16 @@ pub fn poll<P: Poller, N: Link, D: Dice, L: Ledger>(
     if first.is_empty() {
         return Ok(());
     }
-    let Ok(()) = open(link, asking.server, first) else {
-        return Err(Stop::Link);
+    let Ok(()) = open(link, upstream.servers, first) else {
+        return Err(PollError::Link);
     };
-    let Terms { wait, tries } = asking.terms;
-    for _turn in 0..FLOOD * MOST_NAMES as u64 * (wait * tries) as u64 {
+    for _turn in 0..FLOOD * MOST_NAMES as u64 * upstream.terms.limit() as u64 {
         if poller.ended() {
             return Ok(());
         }
         match turn(alloc, poller, link, dice, runs) {
             Ok(()) => {}
-            Err(stop) => return Err(stop),
+            Err(error) => return Err(error),
         }
     }
     Ok(())
@@ -82,7 +81,7 @@ fn turn<P: Poller, N: Link, D: Dice, L: Ledger>(
     link: &mut N,
     dice: &mut D,
     runs: &mut Steps<L>,
-) -> Result<(), Stop>
+) -> Result<(), PollError>
     ensures turned { (talk : Talk) (old : Outside) (count : ℕ) →
         (r : Reached talk (P.stands poller.old talk.task) old (N.state link.old) (D.told dice.old) runs.old count) →
         some_wait talk.task.terms talk.task.jobs (turns_of r.moves) ≡ true →
@@ -92,22 +91,22 @@ fn turn<P: Poller, N: Link, D: Dice, L: Ledger>(
 {
     let mut buffer = [0; 512];
     let Ok(got) = link.receive(&mut buffer) else {
-        return Err(Stop::Link);
+        return Err(PollError::Link);
     };
     let Ok(sent) = poller.step(alloc, event_in(&buffer, got), dice, runs) else {
-        return Err(Stop::Memory);
+        return Err(PollError::Memory);
     };
     let Ok(()) = send_all(link, &sent) else {
-        return Err(Stop::Link);
+        return Err(PollError::Link);
     };
     Ok(())
 }
 
-// Opens the link to the server, and sends the first questions.
-fn open<N: Link>(link: &mut N, server: Server, first: &[Question]) -> Result<(), Failed>
+// Opens the link to the servers, and sends the first questions.
+fn open<N: Link>(link: &mut N, servers: Servers, first: &[Sending]) -> Result<(), Failed>
     requires { 0 < length first.now }
-    ensures { HasBegun (N.state link.old) server (map octets_of first.now) result (N.state link.new) }
+    ensures { HasBegun (N.state link.old) servers (map outgoing_of first.now) result (N.state link.new) }
 {
-    link.open(server)?;
+    link.open(servers.first, servers.second)?;
     send_all(link, first)
 }

@@ -1,7 +1,7 @@
 // What polls.
 ghost use Rattle.std.specs.Prelude.{◌≡◌, not, map, IfOk, OnErr, OnOk};
 ghost use Rattle.poll_log.specs.Turns.{Turns};
-ghost use Rattle.poll_log.specs.Questions.{octets_of};
+ghost use Rattle.poll_log.specs.Questions.{outgoing_of};
 ghost use Rattle.poll_log.specs.Jobs.{some_wait};
 ghost use Rattle.poll_loop.specs.Task.{Task};
 ghost use Rattle.poll_loop.specs.Events.{event_of};
@@ -9,7 +9,7 @@ ghost use Rattle.poll_loop.specs.Steps.{Stepped, StepFails};
 
 use crate::Event;
 use pac_ports::Dice;
-use poll_log::Question;
+use poll_log::Sending;
 use std::alloc::Global;
 use std::sync::ledger::Ledger;
 use step_counter::Steps;
@@ -37,9 +37,9 @@ pub trait Poller {
         event: Event<'_>,
         dice: &mut D,
         runs: &mut Steps<L>,
-    ) -> Result<Vec<Question>, Memory>
+    ) -> Result<Vec<Sending>, Memory>
         ensures ok { IfOk result (λ sent. (task : Task) (turns : Turns) → stands self.old task turns →
-            Stepped (stands self.new task) task turns (event_of event.entry) (map octets_of sent.items)
+            Stepped (stands self.new task) task turns (event_of event.entry) (map outgoing_of sent.items)
             (D.told dice.old) (D.told dice.new) runs.old runs.new) }
         ensures memory { OnErr result ((task : Task) (turns : Turns) → stands self.old task turns →
             StepFails task turns (event_of event.entry) (D.told dice.old) (D.told dice.new) runs.old runs.new) }

@@ -13,7 +13,8 @@ use Rattle.poll_log.specs.declared.question.Question.{Question}
 use Rattle.poll_log.specs.declared.terms.Terms.{Terms}
 use Rattle.poll_log.specs.Turns.{Turns, Then, Event, Given, Tick}
 use Rattle.poll_log.specs.Questions.{firsts, has_name, names_of, same_name}
-use Rattle.poll_log.specs.Told.{Map, accepted, accepted_in, age, limit, or_else, told}
+use Rattle.poll_log.specs.Sendings.{limit}
+use Rattle.poll_log.specs.Told.{Map, accepted, accepted_in, age, or_else, told}
 use Rattle.poll_log.specs.Moment.{dead_in, flies, flight_at, flights_in}
 use Rattle.poll_log.proofs.Asking.{firsts_named}
 use Rattle.poll_log.proofs.Bounds.{extends_next}
@@ -26,7 +27,8 @@ use Rattle.stub_poller.proofs.Driving.{driven_shows, driven_terms}
 use Rattle.stub_poller.proofs.FlightLists.{over_or_young}
 use Rattle.stub_poller.proofs.Showing.{flights_cons, flights_nil, given_shows, told_by}
 use Rattle.session_core.specs.Sessions.{dead_of}
-use Rattle.session_core.specs.Cascade.{KnowsThese, found_at, told_name, with_answer, with_found}
+use Rattle.session_core.specs.Cascade.{KnowsThese}
+use Rattle.session_core.specs.Lookups.{found_at, told_name, with_answer, with_found}
 use Rattle.session_core.proofs.Telling.{Found, found_is, none_is}
 use Rattle.session_core.proofs.Tells.{Tells}
 

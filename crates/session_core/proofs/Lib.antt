@@ -1,4 +1,3 @@
-pub mod Burying
 pub mod Drawing
 pub mod Knowing
 pub mod OneRun
@@ -6,7 +5,7 @@ pub mod Cascades
 pub mod Telling
 pub mod Tells
 pub mod Found
+pub mod Sent
 pub mod Turning
 pub mod Begins
 pub mod Start
-pub mod Walks

@@ -2,18 +2,18 @@
 use Rattle.std.specs.Prelude.{◌≡◌, ℕ, List, Option, map}
 use Rattle.std.specs.FinMap as finite
 use Rattle.std.specs.List.{All, filter_map}
-use Rattle.js_host.specs.Answers.{Name, AnswerMap}
+use Rattle.js_host.specs.Answers.{Name}
 use Rattle.run_trees.specs.RunTree.{RunTree}
 use Rattle.pac_ports.specs.Dice.{DiceTold}
 use Rattle.poll_log.specs.declared.question.Question.{Question}
 use Rattle.poll_log.specs.Questions.{IsQuestion, names_of}
 use Rattle.poll_log.specs.Told.{Map}
 use Rattle.poll_log.specs.Jobs.{Job, once}
-use Rattle.stub_poller.specs.State.{StubState}
-use Rattle.stub_poller.specs.Driven.{asking_all}
 use Rattle.poll_loop.specs.Numbers.{GaveAll}
 use Rattle.session_log.specs.Asked.{job_of}
+use Rattle.session_core.specs.declared.lookups.Lookups.{Lookups}
 use Rattle.session_core.specs.declared.session.Session.{Session}
+use Rattle.session_core.specs.Lookups.{with_asked}
 use Rattle.session_core.specs.Settling.{numbers_of}
 use Rattle.session_core.specs.Cascade.{KnowsThese}
 use Rattle.session_core.specs.Stands.{ArePlaced}
@@ -22,15 +22,15 @@ use Rattle.session_core.specs.Stands.{ArePlaced}
 abbrev pub missing_of : {R End : Type 0} → (R → RunTree End) → Map → List R → List Name
 missing_of tree answers all = filter_map (λ run. job_of (tree run) answers) all
 
--- Each of these was run once, over these answers; what they miss was asked, each name once.
-pub record Begins {R Out End : Type 0} (gives : Out → End → List (List ℕ) → Type 0) (tree : R → RunTree End) (table : AnswerMap) (all : List R) (stub stub' : StubState) (dice dice' : Option DiceTold) (sessions : List (Session R Out)) (asked : List Question) : Type 0 where
+-- Each of these was run once, over what was told; what they miss was asked, each name once.
+pub record Begins {R Out End : Type 0} (gives : Out → End → List (List ℕ) → Type 0) (tree : R → RunTree End) (all : List R) (lookups lookups' : Lookups) (dice dice' : Option DiceTold) (sessions : List (Session R Out)) (asked : List Question) : Type 0 where
   pub runs_are : map (λ s. s.run) sessions ≡ all
-  pub placed : ArePlaced gives tree table stub sessions
+  pub placed : ArePlaced gives tree lookups sessions
   pub counted : All (λ s. s.runs ≡ 1) sessions
-  pub asks : (seen : List Name) → KnowsThese stub (finite.get table) seen → names_of asked ≡ once seen (missing_of tree (finite.get table) all)
+  pub asks : (seen : List Name) → KnowsThese lookups.stub (finite.get lookups.table) seen → names_of asked ≡ once seen (missing_of tree (finite.get lookups.table) all)
   pub proper : All IsQuestion asked
-  pub stub_is : stub' ≡ asking_all asked stub
   pub drew : GaveAll dice (numbers_of asked) dice'
+  pub lookups_are : lookups' ≡ with_asked asked lookups
 
 -- the jobs of runs
 abbrev pub run_jobs : {R End : Type 0} → (R → RunTree End) → List R → List Job

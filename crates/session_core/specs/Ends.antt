@@ -3,8 +3,8 @@ use Rattle.std.specs.Prelude.{Bool, true, false}
 use Rattle.poll_log.specs.declared.terms.Terms.{Terms}
 use Rattle.poll_log.specs.Turns.{Turns}
 use Rattle.poll_log.specs.Jobs.{IsFinished, IsUnanswered, Job, WaitsFor}
-use Rattle.session_core.specs.declared.session.State.{State}
-use Rattle.session_core.specs.declared.session.State.TheVariants as state
+use Rattle.session_core.specs.declared.session.Progress.{Progress}
+use Rattle.session_core.specs.declared.session.Progress.TheVariants as progress
 use Rattle.session_core.specs.declared.session.SessionState.{SessionState}
 use Rattle.session_core.specs.declared.session.SessionState.TheVariants.{Waiting, Finished, Unanswered}
 
@@ -14,12 +14,12 @@ IsState terms turns job (Waiting name) = WaitsFor terms turns job name
 IsState terms turns job Finished = IsFinished terms turns job
 IsState terms turns job (Unanswered name) = IsUnanswered terms turns job name
 
-abbrev pub without_outcome : {Out : Type 0} → State Out → SessionState
-without_outcome (state.Waiting name) = Waiting name
-without_outcome (state.Finished out) = Finished
-without_outcome (state.Unanswered name) = Unanswered name
+abbrev pub without_outcome : {Out : Type 0} → Progress Out → SessionState
+without_outcome (progress.Waiting name) = Waiting name
+without_outcome (progress.Finished out) = Finished
+without_outcome (progress.Unanswered name) = Unanswered name
 
-abbrev pub is_finished : {Out : Type 0} → State Out → Bool
-is_finished (state.Waiting name) = false
-is_finished (state.Finished out) = true
-is_finished (state.Unanswered name) = false
+abbrev pub is_finished : {Out : Type 0} → Progress Out → Bool
+is_finished (progress.Waiting name) = false
+is_finished (progress.Finished out) = true
+is_finished (progress.Unanswered name) = false

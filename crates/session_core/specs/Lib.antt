@@ -1,4 +1,5 @@
 pub mod Answers
+pub mod Lookups
 pub mod Sessions
 pub mod Settling
 pub mod Cascade

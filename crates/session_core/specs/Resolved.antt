@@ -7,20 +7,20 @@ use Rattle.poll_log.specs.Turns.{Turns}
 use Rattle.poll_log.specs.Told.{told}
 use Rattle.poll_log.specs.Jobs.{IsFinished, IsUnanswered, Job, runs_of}
 use Rattle.poll_loop.specs.Task.{Talk}
-use Rattle.poll_loop.specs.declared.looping.Asking.{Asking}
+use Rattle.poll_loop.specs.declared.looping.Upstream.{Upstream}
 use Rattle.session_log.specs.Asked.{job_of}
-use Rattle.session_core.specs.declared.session.State.{State}
-use Rattle.session_core.specs.declared.session.State.TheVariants.{Waiting, Finished, Unanswered}
+use Rattle.session_core.specs.declared.session.Progress.{Progress}
+use Rattle.session_core.specs.declared.session.Progress.TheVariants.{Waiting, Finished, Unanswered}
 use Rattle.session_core.specs.declared.session.Session.{Session}
 use Rattle.session_core.specs.Sessions.{IsOutcome}
 use Rattle.session_core.specs.Stands.{task_of}
 
--- These jobs, and the server that is asked.
-abbrev pub talk_of : Asking → List Job → Talk
-talk_of asking jobs = record { server = asking.server; task = task_of asking.terms jobs }
+-- These jobs, and the servers that are asked.
+abbrev pub talk_of : Upstream → List Job → Talk
+talk_of upstream jobs = record { servers = upstream.servers; task = task_of upstream.terms jobs }
 
 -- The outcome of the uninterrupted run against every map that holds what is told; or the first untold name, which is dead.
-abbrev pub HasEnded : {Out End : Type 0} → (Out → End → List (List ℕ) → Type 0) → RunTree End → Terms → Turns → State Out → Type 0
+abbrev pub HasEnded : {Out End : Type 0} → (Out → End → List (List ℕ) → Type 0) → RunTree End → Terms → Turns → Progress Out → Type 0
 HasEnded gives run terms turns (Waiting name) = ⊥
 HasEnded gives run terms turns (Finished out) =
     IsFinished terms turns (job_of run) × IsOutcome gives run (told terms turns) out
@@ -30,5 +30,5 @@ HasEnded gives run terms turns (Unanswered name) = IsUnanswered terms turns (job
 -- once more.
 pub record AllEnded {R Out End : Type 0} (gives : Out → End → List (List ℕ) → Type 0) (tree : R → RunTree End) (runs : List R) (terms : Terms) (turns : Turns) (sessions : List (Session R Out)) : Type 0 where
   pub runs_are : map (λ s. s.run) sessions ≡ runs
-  pub ended : All (λ s. HasEnded gives (tree s.run) terms turns s.state) sessions
+  pub ended : All (λ s. HasEnded gives (tree s.run) terms turns s.progress) sessions
   pub counted : All (λ s. s.runs ≡ runs_of terms turns (job_of (tree s.run))) sessions

@@ -3,7 +3,7 @@ use Rattle.std.specs.Prelude.{◌≡◌, ℕ, ◌||◌, Bool, if◌then◌else�
 use Rattle.std.specs.FinMap as finite
 use Rattle.std.specs.List.{All}
 use Rattle.std.specs.Option.{option_to_list}
-use Rattle.js_host.specs.Answers.{Name, AnswerMap}
+use Rattle.js_host.specs.Answers.{Name}
 use Rattle.run_trees.specs.RunTree.{RunTree}
 use Rattle.pac_ports.specs.Dice.{DiceTold}
 use Rattle.poll_log.specs.declared.question.Question.{Question}
@@ -12,9 +12,11 @@ use Rattle.stub_poller.specs.State.{StubState, flies_in, is_dead_in}
 use Rattle.stub_poller.specs.Driven.{asking_all}
 use Rattle.poll_loop.specs.Numbers.{GaveAll}
 use Rattle.session_log.specs.Asked.{job_of}
-use Rattle.session_core.specs.declared.session.State.{State}
-use Rattle.session_core.specs.declared.session.State.TheVariants.{Waiting, Unanswered}
+use Rattle.session_core.specs.declared.lookups.Lookups.{Lookups}
+use Rattle.session_core.specs.declared.session.Progress.{Progress}
+use Rattle.session_core.specs.declared.session.Progress.TheVariants.{Waiting, Unanswered}
 use Rattle.session_core.specs.declared.settling.Settled.{Settled}
+use Rattle.session_core.specs.Lookups.{with_asked}
 use Rattle.session_core.specs.Sessions.{IsPlaced, dead_of}
 
 -- a name that a stub knows is dead or in flight
@@ -31,21 +33,22 @@ abbrev pub numbers_of : List Question → List ℕ
 numbers_of asked = map (λ q. q.id) asked
 
 -- The names that were asked, as questions, with the numbers of the dice.
-pub record Asks (names : List Name) (stub stub' : StubState) (dice dice' : Option DiceTold) (asked : List Question) : Type 0 where
+pub record Asks (names : List Name) (dice dice' : Option DiceTold) (asked : List Question) : Type 0 where
   pub names_are : names_of asked ≡ names
   pub proper : All IsQuestion asked
-  pub stub_is : stub' ≡ asking_all asked stub
   pub drew : GaveAll dice (numbers_of asked) dice'
 
-abbrev pub state_of_dead : {Out : Type 0} → Name → Bool → State Out
-state_of_dead name dead = if dead then Unanswered name else Waiting name
+abbrev pub progress_at : {Out : Type 0} → Name → Bool → Progress Out
+progress_at name dead = if dead then Unanswered name else Waiting name
 
 -- A run misses the name.
 pub record Awaits {Out : Type 0} (name : Name) (stub stub' : StubState) (dice dice' : Option DiceTold) (settled : Settled Out) : Type 0 where
-  pub state_is : settled.state ≡ state_of_dead name (is_dead_in name stub)
-  pub asks : Asks (asked_of stub (Some name)) stub stub' dice dice' (option_to_list settled.asked)
+  pub progress_is : settled.progress ≡ progress_at name (is_dead_in name stub)
+  pub asks : Asks (asked_of stub (Some name)) dice dice' (option_to_list settled.asked)
+  pub stub_is : stub' ≡ asking_all (option_to_list settled.asked) stub
 
--- One run was run over these answers.
-pub record Settles {Out End : Type 0} (gives : Out → End → List (List ℕ) → Type 0) (run : RunTree End) (table : AnswerMap) (stub stub' : StubState) (dice dice' : Option DiceTold) (settled : Settled Out) : Type 0 where
-  pub placed : IsPlaced gives run (finite.get table) (dead_of stub) settled.state
-  pub asks : Asks (asked_of stub (job_of run (finite.get table))) stub stub' dice dice' (option_to_list settled.asked)
+-- One run was run over what was told.
+pub record Settles {Out End : Type 0} (gives : Out → End → List (List ℕ) → Type 0) (run : RunTree End) (lookups lookups' : Lookups) (dice dice' : Option DiceTold) (settled : Settled Out) : Type 0 where
+  pub placed : IsPlaced gives run (finite.get lookups.table) (dead_of lookups.stub) settled.progress
+  pub asks : Asks (asked_of lookups.stub (job_of run (finite.get lookups.table))) dice dice' (option_to_list settled.asked)
+  pub lookups_are : lookups' ≡ with_asked (option_to_list settled.asked) lookups

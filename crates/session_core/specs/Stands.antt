@@ -2,19 +2,20 @@
 use Rattle.std.specs.Prelude.{◌≡◌, ℕ, Bool, false, List, map}
 use Rattle.std.specs.FinMap as finite
 use Rattle.std.specs.List.{All}
-use Rattle.js_host.specs.Answers.{Name, AnswerMap}
+use Rattle.js_host.specs.Answers.{Name}
 use Rattle.run_trees.specs.RunTree.{RunTree}
 use Rattle.poll_log.specs.declared.terms.Terms.{Terms}
+use Rattle.poll_log.specs.Sendings.{AreTerms}
 use Rattle.poll_log.specs.Turns.{Turns}
 use Rattle.poll_log.specs.Told.{told}
 use Rattle.poll_log.specs.Jobs.{Job, SendsOwed, runs_of}
-use Rattle.stub_poller.specs.State.{StubState}
-use Rattle.stub_poller.specs.Ready.{AreTerms}
 use Rattle.stub_poller.specs.Driven.{driven}
 use Rattle.poll_loop.specs.Counting.{HasCounted}
 use Rattle.poll_loop.specs.Task.{Task}
 use Rattle.session_log.specs.Asked.{job_of}
 use Rattle.session_log.specs.Sessions.{all_runs}
+use Rattle.session_core.specs.declared.lookups.Lookups.{Lookups}
+use Rattle.session_core.specs.declared.poller.Core.{Core}
 use Rattle.session_core.specs.declared.session.Session.{Session}
 use Rattle.session_core.specs.Sessions.{IsPlaced, dead_of}
 
@@ -26,23 +27,36 @@ jobs_of tree sessions = map (λ s. job_of (tree s.run)) sessions
 abbrev pub task_of : Terms → List Job → Task
 task_of terms jobs = record { terms = terms; jobs = jobs; runs = all_runs terms jobs }
 
--- by these answers and by who is dead
-abbrev pub ArePlaced : {R Out End : Type 0} → (Out → End → List (List ℕ) → Type 0) → (R → RunTree End) → AnswerMap → StubState → List (Session R Out) → Type 0
-ArePlaced gives tree table stub sessions = All (λ s. IsPlaced gives (tree s.run) (finite.get table) (dead_of stub) s.state) sessions
+-- by what was told and by who is dead
+abbrev pub ArePlaced : {R Out End : Type 0} → (Out → End → List (List ℕ) → Type 0) → (R → RunTree End) → Lookups → List (Session R Out) → Type 0
+ArePlaced gives tree lookups sessions = All (λ s. IsPlaced gives (tree s.run) (finite.get lookups.table) (dead_of lookups.stub) s.progress) sessions
 
-pub record Stands {R Out End : Type 0} (gives : Out → End → List (List ℕ) → Type 0) (tree : R → RunTree End) (sessions : List (Session R Out)) (table : AnswerMap) (stub : StubState) (beats : ℕ) (task : Task) (turns : Turns) : Type 0 where
-  pub same : task ≡ task_of stub.terms (jobs_of tree sessions)
-  pub ranges : AreTerms stub.terms
-  pub sends : SendsOwed stub.terms (jobs_of tree sessions) turns
+pub record Stands {R Out End : Type 0} (gives : Out → End → List (List ℕ) → Type 0) (tree : R → RunTree End) (sessions : List (Session R Out)) (lookups : Lookups) (task : Task) (turns : Turns) : Type 0 where
+  pub same : task ≡ task_of lookups.stub.terms (jobs_of tree sessions)
+  pub ranges : AreTerms lookups.stub.terms
+  pub sends : SendsOwed lookups.stub.terms (jobs_of tree sessions) turns
   -- in flight is what was sent and is neither told nor dead, with number and age
-  pub flying : stub ≡ driven stub.terms turns
+  pub flying : lookups.stub ≡ driven lookups.stub.terms turns
   -- the table holds what is told
-  pub told_is : (n : Name) → finite.get table n ≡ told stub.terms turns n
-  pub placed : ArePlaced gives tree table stub sessions
-  pub counted : All (λ s. s.runs ≡ runs_of stub.terms turns (job_of (tree s.run))) sessions
-  pub beating : HasCounted beats turns
+  pub told_is : (n : Name) → finite.get lookups.table n ≡ told lookups.stub.terms turns n
+  pub placed : ArePlaced gives tree lookups sessions
+  pub counted : All (λ s. s.runs ≡ runs_of lookups.stub.terms turns (job_of (tree s.run))) sessions
+  pub beating : HasCounted lookups.beats turns
+
+-- ---- a core
+
+abbrev pub sessions_of : {R Out : Type 0} → Core R Out → List (Session R Out)
+sessions_of core = core.sessions.items
+
+-- what its sessions run, in their order
+abbrev pub its_runs : {R Out : Type 0} → Core R Out → List R
+its_runs core = map (λ s. s.run) core.sessions.items
+
+-- memory ran out in the midst of an event
+abbrev pub is_broken : {R Out : Type 0} → Core R Out → Bool
+is_broken core = core.broken
 
 -- A core stands for a log while memory never ran out.
-pub record StandsFor {R Out End : Type 0} (gives : Out → End → List (List ℕ) → Type 0) (tree : R → RunTree End) (sessions : List (Session R Out)) (table : AnswerMap) (stub : StubState) (beats : ℕ) (broken : Bool) (task : Task) (turns : Turns) : Type 0 where
-  pub whole : broken ≡ false
-  pub stands : Stands gives tree sessions table stub beats task turns
+pub record StandsFor {R Out End : Type 0} (gives : Out → End → List (List ℕ) → Type 0) (tree : R → RunTree End) (core : Core R Out) (task : Task) (turns : Turns) : Type 0 where
+  pub whole : is_broken core ≡ false
+  pub stands : Stands gives tree core.sessions.items core.lookups task turns

@@ -3,9 +3,9 @@ ghost use Rattle.std.specs.Prelude.{◌≡◌, IfOk, OnOk, map};
 ghost use Rattle.stub_poller.specs.State.{beaten, resent};
 ghost use Rattle.session_core.specs.Sessions.{buried, died_with};
 
-use crate::{Session, State};
+use crate::{Progress, Session};
 use pac_names::LookupName;
-use poll_log::Question;
+use poll_log::Sending;
 use std::alloc::Global;
 use stub_poller::Stub;
 use utf16_text::Memory;
@@ -16,12 +16,12 @@ pub(crate) fn take_beat<R, O: Drop>(
     alloc: Global,
     sessions: &mut [Session<R, O>],
     stub: &mut Stub,
-) -> Result<Vec<Question>, Memory>
+) -> Result<Vec<Sending>, Memory>
     ensures again { IfOk result (λ again. again.items ≡ resent stub.old) }
     ensures stub { OnOk result (stub.new ≡ beaten stub.old) }
     ensures sessions { OnOk result (sessions.new ≡ map (buried (beaten stub.old)) sessions.old) }
 {
-    let again = copies(alloc, &stub.on_beat().resend)?;
+    let again = stub.on_beat().resends(alloc)?;
     bury(sessions, stub);
     Ok(again)
 }
@@ -38,34 +38,24 @@ fn bury<R, O: Drop>(sessions: &mut [Session<R, O>], stub: &Stub)
 fn bury_one<R, O: Drop>(session: &mut Session<R, O>, stub: &Stub)
     ensures { session.new ≡ buried stub.now session.old }
 {
-    if let Some(name) = died(&session.state, stub) {
-        session.state = State::Unanswered(name);
+    if let Some(name) = died(&session.progress, stub) {
+        session.progress = Progress::Unanswered(name);
     }
 }
 
 // The dead name that it waits for, if it waits for one.
-fn died<O>(state: &State<O>, stub: &Stub) -> Option<LookupName>
-    ensures { result ≡ died_with stub.now state.now }
+fn died<O>(progress: &Progress<O>, stub: &Stub) -> Option<LookupName>
+    ensures { result ≡ died_with stub.now progress.now }
 {
-    match state {
-        State::Waiting(name) => {
+    match progress {
+        Progress::Waiting(name) => {
             if stub.is_dead(name) {
                 Some(name.copy())
             } else {
                 None
             }
         }
-        State::Finished(_) => None,
-        State::Unanswered(_) => None,
+        Progress::Finished(_) => None,
+        Progress::Unanswered(_) => None,
     }
-}
-
-fn copies(alloc: Global, questions: &[Question]) -> Result<Vec<Question>, Memory>
-    ensures { IfOk result (λ copies. copies.items ≡ questions.now) }
-{
-    let mut copies = Vec::new(alloc);
-    for question in questions {
-        copies.push(question.copy())?;
-    }
-    Ok(copies)
 }

@@ -3,16 +3,15 @@ ghost use Rattle.std.specs.Prelude.{◌≡◌, ℕ, ◌+◌, ◌≤◌, IfOk, Li
 ghost use Rattle.poll_loop.specs.Numbers.{GaveAll};
 ghost use Rattle.session_core.specs.Beginning.{Begins};
 
-use crate::cascade::push_asked;
+use crate::asking::push_asked;
+use crate::lookups::Lookups;
 use crate::settling::settle;
 use crate::{Run, Session};
-use answer_table::AnswerTable;
 use pac_ports::Dice;
 use poll_log::Question;
 use std::alloc::Global;
 use std::sync::ledger::Ledger;
 use step_counter::Steps;
-use stub_poller::Stub;
 use utf16_text::Memory;
 
 /// Sessions that have begun, and what their runs ask.
@@ -26,13 +25,12 @@ pub(crate) struct Begun<R, O> {
 pub(crate) fn begin<R: Run, D: Dice, L: Ledger>(
     alloc: Global,
     all: Vec<R>,
-    table: &AnswerTable,
-    stub: &mut Stub,
+    lookups: &mut Lookups,
     dice: &mut D,
     runs: &mut Steps<L>,
 ) -> Result<Begun<R, R::Outcome>, Memory>
-    ensures ok { IfOk result (λ begun. Begins R.gives R.tree table.now all.items
-        stub.old stub.new (D.told dice.old) (D.told dice.new) begun.sessions.items begun.asked.items) }
+    ensures ok { IfOk result (λ begun. Begins R.gives R.tree all.items lookups.old lookups.new
+        (D.told dice.old) (D.told dice.new) begun.sessions.items begun.asked.items) }
     ensures memory { OnErr result ((more : List ℕ) × GaveAll (D.told dice.old) more (D.told dice.new)) }
     ensures ran { OnOk result (runs.new ≡ runs.old + length all.items) }
     ensures most { runs.new ≤ runs.old + length all.items }
@@ -40,11 +38,11 @@ pub(crate) fn begin<R: Run, D: Dice, L: Ledger>(
     let mut sessions = Vec::new(alloc);
     let mut asked = Vec::new(alloc);
     for run in all {
-        let settled = settle(alloc, &run, table, stub, dice, runs)?;
+        let settled = settle(alloc, &run, lookups, dice, runs)?;
         push_asked(&mut asked, settled.asked)?;
         sessions.push(Session {
             run,
-            state: settled.state,
+            progress: settled.progress,
             runs: 1,
         })?;
     }

@@ -1,45 +1,51 @@
 // What an event does.
-ghost use Rattle.std.specs.Prelude.{◌≡◌, ℕ, ◌+◌, ◌≤◌, IfOk, List, OnErr, OnOk};
+ghost use Rattle.std.specs.Prelude.{◌≡◌, IfOk, OnErr, OnOk, map};
+ghost use Rattle.poll_log.specs.Turns.{Turns};
+ghost use Rattle.poll_log.specs.Questions.{outgoing_of};
 ghost use Rattle.poll_loop.specs.Events.{event_of};
-ghost use Rattle.poll_loop.specs.Numbers.{GaveAll};
-ghost use Rattle.session_core.specs.Sessions.{count_woken};
-ghost use Rattle.session_core.specs.Cascade.{Hears, found_at, told_name};
+ghost use Rattle.poll_loop.specs.Steps.{Stepped, StepFails};
+ghost use Rattle.poll_loop.specs.Task.{Task};
+ghost use Rattle.session_core.specs.Stands.{Stands};
 
-use crate::cascade::take_datagram;
+use crate::asking::first_sendings;
+use crate::beats::take_beat;
+use crate::cascade::rerun;
+use crate::lookups::Lookups;
 use crate::{Run, Session};
-use answer_table::AnswerTable;
 use pac_ports::Dice;
-use poll_log::Question;
+use poll_log::Sending;
 use poll_loop::Event;
 use std::alloc::Global;
 use std::sync::ledger::Ledger;
 use step_counter::Steps;
-use stub_poller::Stub;
 use utf16_text::Memory;
 
-/// Takes the answer that an event gives, if it gives one, and runs each session again that waits for it. What these
-/// runs ask is given.
-pub(crate) fn hear<R: Run, D: Dice, L: Ledger>(
+/// Treats one event whole: first what it answers, then the beat, if it is one. What is to be sent is given.
+pub(crate) fn take_event<R: Run, D: Dice, L: Ledger>(
     alloc: Global,
     event: Event<'_>,
     sessions: &mut [Session<R, R::Outcome>],
-    table: &mut AnswerTable,
-    stub: &mut Stub,
+    lookups: &mut Lookups,
     dice: &mut D,
     runs: &mut Steps<L>,
-) -> Result<Vec<Question>, Memory>
-    ensures ok { IfOk result (λ asked. Hears R.gives R.tree (event_of event.entry) table.old table.new
-        sessions.old sessions.new stub.old stub.new (D.told dice.old) (D.told dice.new) asked.items) }
-    ensures memory { OnErr result ((more : List ℕ) × GaveAll (D.told dice.old) more (D.told dice.new)) }
-    ensures ran { OnOk result (runs.new ≡
-        runs.old + count_woken (told_name (found_at (event_of event.entry) stub.old)) sessions.old) }
-    ensures most { runs.new ≤
-        runs.old + count_woken (told_name (found_at (event_of event.entry) stub.old)) sessions.old }
+) -> Result<Vec<Sending>, Memory>
+    ensures ok { IfOk result (λ sent. (task : Task) (turns : Turns) →
+        Stands R.gives R.tree sessions.old lookups.old task turns →
+        Stepped (Stands R.gives R.tree sessions.new lookups.new task)
+        task turns (event_of event.entry) (map outgoing_of sent.items)
+        (D.told dice.old) (D.told dice.new) runs.old runs.new) }
+    ensures memory { OnErr result ((task : Task) (turns : Turns) →
+        Stands R.gives R.tree sessions.old lookups.old task turns →
+        StepFails task turns (event_of event.entry) (D.told dice.old) (D.told dice.new) runs.old runs.new) }
+    ensures kept { OnOk result (map (λ s. s.run) sessions.new ≡ map (λ s. s.run) sessions.old) }
 {
-    match event {
-        Event::Datagram(datagram) => {
-            take_datagram(alloc, datagram, sessions, table, stub, dice, runs)
-        }
-        Event::Tick => Ok(Vec::new(alloc)),
+    let told = lookups.hear(alloc, event)?;
+    let asked = rerun(alloc, sessions, told, lookups, dice, runs)?;
+    let mut sent = first_sendings(alloc, asked)?;
+    if !lookups.beats.count(event) {
+        return Ok(sent);
     }
+    let mut again = take_beat(alloc, sessions, &mut lookups.stub)?;
+    sent.append(&mut again)?;
+    Ok(sent)
 }

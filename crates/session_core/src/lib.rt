@@ -6,10 +6,12 @@
 //! on tracing_host for the hosts of runs.
 #![tactic(auto)]
 
+mod asking;
 mod beats;
 mod beginning;
 mod cascade;
 mod events;
+mod lookups;
 mod poller;
 mod resolving;
 mod run;
@@ -18,5 +20,5 @@ mod settling;
 
 pub use poller::Core;
 pub use resolving::run_all;
-pub use run::{Run, RunAnswer};
-pub use session::{Session, SessionState, State};
+pub use run::{Attempt, Run};
+pub use session::{Progress, Session, SessionState};

@@ -1,80 +1,47 @@
 // Many sessions, as a poller.
 ghost use Rattle.std.specs.Prelude.{◌≡◌, IfOk, IsErr, OnErr, OnOk, map, true};
 ghost use Rattle.poll_log.specs.Turns.{Turns};
-ghost use Rattle.poll_log.specs.Questions.{octets_of};
+ghost use Rattle.poll_log.specs.Questions.{outgoing_of};
 ghost use Rattle.poll_loop.specs.Events.{event_of};
 ghost use Rattle.poll_loop.specs.Steps.{Stepped, StepFails};
 ghost use Rattle.poll_loop.specs.Task.{Task};
-ghost use Rattle.session_core.specs.Stands.{Stands};
+ghost use Rattle.session_core.specs.Stands.{StandsFor, is_broken, its_runs};
 
-use crate::beats::take_beat;
+use crate::asking::first_sendings;
 use crate::beginning::{Begun, begin};
-use crate::events::hear;
+use crate::events::take_event;
+use crate::lookups::Lookups;
 use crate::session::{outcome_of, some_wait, without_outcome};
 use crate::{Run, Session, SessionState};
-use answer_table::AnswerTable;
 use pac_ports::Dice;
-use poll_log::{Question, Terms};
-use poll_loop::{BeatCounter, Event, Poller};
+use poll_log::{Sending, Terms};
+use poll_loop::{Event, Poller};
 use std::alloc::Global;
 use std::sync::ledger::Ledger;
 use step_counter::Steps;
-use stub_poller::Stub;
 use utf16_text::Memory;
 
-/// Many runs over one table of answers and one stub.
+/// Many runs, and what is known of the names that they ask.
 #[derive(Drop)]
 pub struct Core<R: Run> {
     pub(crate) sessions: Vec<Session<R, R::Outcome>>,
-    table: AnswerTable,
-    stub: Stub,
-    beats: BeatCounter,
+    lookups: Lookups,
     // memory ran out in the midst of an event
     broken: bool,
-}
-
-// Treats one event whole: first what it answers, then the beat, if it is one.
-fn take_event<R: Run, D: Dice, L: Ledger>(
-    alloc: Global,
-    event: Event<'_>,
-    sessions: &mut [Session<R, R::Outcome>],
-    table: &mut AnswerTable,
-    stub: &mut Stub,
-    beats: &mut BeatCounter,
-    dice: &mut D,
-    runs: &mut Steps<L>,
-) -> Result<Vec<Question>, Memory>
-    ensures ok { IfOk result (λ sent. (task : Task) (turns : Turns) →
-        Stands R.gives R.tree sessions.old table.old stub.old beats.old task turns →
-        Stepped (Stands R.gives R.tree sessions.new table.new stub.new beats.new task)
-        task turns (event_of event.entry) (map octets_of sent.items)
-        (D.told dice.old) (D.told dice.new) runs.old runs.new) }
-    ensures memory { OnErr result ((task : Task) (turns : Turns) →
-        Stands R.gives R.tree sessions.old table.old stub.old beats.old task turns →
-        StepFails task turns (event_of event.entry) (D.told dice.old) (D.told dice.new) runs.old runs.new) }
-    ensures kept { OnOk result (map (λ s. s.run) sessions.new ≡ map (λ s. s.run) sessions.old) }
-{
-    let mut sent = hear(alloc, event, sessions, table, stub, dice, runs)?;
-    if !beats.count(event) {
-        return Ok(sent);
-    }
-    let mut again = take_beat(alloc, sessions, stub)?;
-    sent.append(&mut again)?;
-    Ok(sent)
 }
 
 impl<R: Run> Core<R> {
     ghost use Rattle.std.specs.Prelude.{ℕ, ◌+◌, ◌<◌, ◌≤◌, IfSome, List, None, get_or, length};
     ghost use Rattle.pac_plan.specs.Plan.{Outside};
+    ghost use Rattle.poll_log.specs.Sendings.{AreTerms};
     ghost use Rattle.poll_log.specs.Told.{told};
     ghost use Rattle.poll_log.specs.Jobs.{IsFinished, Job, runs_of};
     ghost use Rattle.poll_loop.specs.Numbers.{GaveAll};
     ghost use Rattle.poll_loop.specs.Steps.{Began};
-    ghost use Rattle.stub_poller.specs.Ready.{AreTerms};
     ghost use Rattle.session_core.specs.Beginning.{run_jobs};
     ghost use Rattle.session_core.specs.Ends.{IsState};
     ghost use Rattle.session_core.specs.Sessions.{IsOutcome};
-    ghost use Rattle.session_core.specs.Stands.{StandsFor, task_of};
+    ghost use Rattle.session_core.specs.Stands.{sessions_of, task_of};
 
     /// Runs each for the first time, in their order, and gives what is to be sent before the first event.
     pub fn start<D: Dice, L: Ledger>(
@@ -83,66 +50,54 @@ impl<R: Run> Core<R> {
         terms: Terms,
         dice: &mut D,
         runs: &mut Steps<L>,
-    ) -> Result<(Core<R>, Vec<Question>), Memory>
+    ) -> Result<(Core<R>, Vec<Sending>), Memory>
         requires { AreTerms terms }
         ensures ok { IfOk result (λ begun. (old : Outside) → old.dice ≡ D.told dice.old → old.runs ≡ runs.old →
-            Began (StandsFor R.gives R.tree begun.0.sessions.items begun.0.table begun.0.stub begun.0.beats
-            begun.0.broken (task_of terms (run_jobs R.tree all.items)))
-            (task_of terms (run_jobs R.tree all.items)) (map octets_of begun.1.items) old (D.told dice.new) runs.new) }
-        ensures sessions { IfOk result (λ begun. map (λ s. s.run) begun.0.sessions.items ≡ all.items) }
+            Began (StandsFor R.gives R.tree begun.0 (task_of terms (run_jobs R.tree all.items)))
+            (task_of terms (run_jobs R.tree all.items)) (map outgoing_of begun.1.items) old (D.told dice.new) runs.new) }
+        ensures sessions { IfOk result (λ begun. its_runs begun.0 ≡ all.items) }
         ensures memory { OnErr result ((more : List ℕ) × GaveAll (D.told dice.old) more (D.told dice.new)) }
         ensures most { runs.new ≤ runs.old + length all.items }
     {
-        let table = AnswerTable::new(alloc);
-        let mut stub = Stub::new(alloc, terms.wait, terms.tries);
-        let beats = BeatCounter::new();
-        let begun = begin(alloc, all, &table, &mut stub, dice, runs)?;
+        let mut lookups = Lookups::new(alloc, terms);
+        let begun = begin(alloc, all, &mut lookups, dice, runs)?;
         let Begun { sessions, asked } = begun;
+        let sent = first_sendings(alloc, asked)?;
         let core = Core {
             sessions,
-            table,
-            stub,
-            beats,
+            lookups,
             broken: false,
         };
-        Ok((core, asked))
+        Ok((core, sent))
     }
 
     /// What has become of a session.
     pub fn state(&self, k: usize) -> SessionState
-        requires { k < length self.now.sessions.items }
-        ensures { (task : Task) (turns : Turns) (job : Job) →
-            StandsFor R.gives R.tree self.now.sessions.items self.now.table self.now.stub
-            self.now.beats self.now.broken task turns →
+        requires { k < length (sessions_of self.now) }
+        ensures { (task : Task) (turns : Turns) (job : Job) → StandsFor R.gives R.tree self.now task turns →
             IsState task.terms turns (get_or task.jobs k job) result }
     {
-        without_outcome(&self.sessions[k].state)
+        without_outcome(&self.sessions[k].progress)
     }
 
     /// The outcome of a session: that of the uninterrupted run against every map that holds what is told. There is none
     /// exactly where the session isn't finished.
     pub fn outcome(&self, k: usize) -> Option<&R::Outcome>
-        requires { k < length self.now.sessions.items }
+        requires { k < length (sessions_of self.now) }
         ensures none { result ≡ None → (task : Task) (turns : Turns) (job : Job) →
-            StandsFor R.gives R.tree self.now.sessions.items self.now.table self.now.stub
-            self.now.beats self.now.broken task turns →
-            IsFinished task.terms turns (get_or task.jobs k job) → ⊥ }
+            StandsFor R.gives R.tree self.now task turns → IsFinished task.terms turns (get_or task.jobs k job) → ⊥ }
         ensures some { IfSome result (λ outcome. (task : Task) (turns : Turns) (job : Job) (run : R) →
-            StandsFor R.gives R.tree self.now.sessions.items self.now.table self.now.stub
-            self.now.beats self.now.broken task turns →
+            StandsFor R.gives R.tree self.now task turns →
             IsFinished task.terms turns (get_or task.jobs k job)
-            × IsOutcome R.gives (R.tree (get_or (map (λ s. s.run) self.now.sessions.items) k run))
-            (told task.terms turns) outcome.now) }
+            × IsOutcome R.gives (R.tree (get_or (its_runs self.now) k run)) (told task.terms turns) outcome.now) }
     {
-        outcome_of(&self.sessions[k].state)
+        outcome_of(&self.sessions[k].progress)
     }
 
     /// How often a session was run.
     pub fn runs_of(&self, k: usize) -> u64
-        requires { k < length self.now.sessions.items }
-        ensures { (task : Task) (turns : Turns) (job : Job) →
-            StandsFor R.gives R.tree self.now.sessions.items self.now.table self.now.stub
-            self.now.beats self.now.broken task turns →
+        requires { k < length (sessions_of self.now) }
+        ensures { (task : Task) (turns : Turns) (job : Job) → StandsFor R.gives R.tree self.now task turns →
             result ≡ runs_of task.terms turns (get_or task.jobs k job) }
     {
         self.sessions[k].runs
@@ -151,14 +106,12 @@ impl<R: Run> Core<R> {
 
 impl<R: Run> Poller for Core<R> {
     ghost use Rattle.std.specs.Prelude.{List};
-    ghost use Rattle.session_core.specs.Stands.{StandsFor};
 
-    ghost stands = { λ core task turns.
-        StandsFor R.gives R.tree core.sessions.items core.table core.stub core.beats core.broken task turns };
+    ghost stands = { StandsFor R.gives R.tree };
 
     ghost Kept = { List R };
 
-    ghost kept = { λ core. map (λ s. s.run) core.sessions.items };
+    ghost kept = { its_runs };
 
     fn ended(&self) -> bool {
         !some_wait(&self.sessions)
@@ -170,27 +123,20 @@ impl<R: Run> Poller for Core<R> {
         event: Event<'_>,
         dice: &mut D,
         runs: &mut Steps<L>,
-    ) -> Result<Vec<Question>, Memory>
-        ensures ok { IfOk result (λ sent. (task : Task) (turns : Turns) →
-            StandsFor R.gives R.tree self.old.sessions.items self.old.table self.old.stub
-            self.old.beats self.old.broken task turns →
-            Stepped (λ after. StandsFor R.gives R.tree self.new.sessions.items self.new.table self.new.stub
-            self.new.beats self.new.broken task after)
-            task turns (event_of event.entry) (map octets_of sent.items)
+    ) -> Result<Vec<Sending>, Memory>
+        ensures ok { IfOk result (λ sent. (task : Task) (turns : Turns) → StandsFor R.gives R.tree self.old task turns →
+            Stepped (StandsFor R.gives R.tree self.new task) task turns (event_of event.entry) (map outgoing_of sent.items)
             (D.told dice.old) (D.told dice.new) runs.old runs.new) }
-        ensures memory { OnErr result ((task : Task) (turns : Turns) →
-            StandsFor R.gives R.tree self.old.sessions.items self.old.table self.old.stub
-            self.old.beats self.old.broken task turns →
+        ensures memory { OnErr result ((task : Task) (turns : Turns) → StandsFor R.gives R.tree self.old task turns →
             StepFails task turns (event_of event.entry) (D.told dice.old) (D.told dice.new) runs.old runs.new) }
         // Each session goes on with its run.
-        ensures kept { OnOk result (
-            map (λ s. s.run) self.new.sessions.items ≡ map (λ s. s.run) self.old.sessions.items) }
+        ensures kept { OnOk result (its_runs self.new ≡ its_runs self.old) }
         // Once memory ran out each later step says so, and changes nothing.
-        ensures broken { OnErr result (self.new.broken ≡ true) }
-        ensures after { self.old.broken ≡ true → IsErr result }
-        ensures still { self.old.broken ≡ true → self.new ≡ self.old }
-        ensures undrawn { self.old.broken ≡ true → dice.new ≡ dice.old }
-        ensures unrun { self.old.broken ≡ true → runs.new ≡ runs.old }
+        ensures broken { OnErr result (is_broken self.new ≡ true) }
+        ensures after { is_broken self.old ≡ true → IsErr result }
+        ensures still { is_broken self.old ≡ true → self.new ≡ self.old }
+        ensures undrawn { is_broken self.old ≡ true → dice.new ≡ dice.old }
+        ensures unrun { is_broken self.old ≡ true → runs.new ≡ runs.old }
     {
         if self.broken {
             return Err(Memory);
@@ -200,9 +146,7 @@ impl<R: Run> Poller for Core<R> {
             alloc,
             event,
             &mut self.sessions,
-            &mut self.table,
-            &mut self.stub,
-            &mut self.beats,
+            &mut self.lookups,
             dice,
             runs,
         )?;

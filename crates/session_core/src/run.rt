@@ -15,7 +15,7 @@ use step_counter::Steps;
 
 /// What a run over a host comes to.
 #[derive(Drop)]
-pub enum RunAnswer<O> {
+pub enum Attempt<O> {
     /// The host knew each name that it asked.
     Done(O),
     /// The first name that the host doesn't know.
@@ -44,7 +44,7 @@ pub trait Run: Drop {
         alloc: Global,
         host: &mut H,
         runs: &mut Steps<L>,
-    ) -> RunAnswer<Self::Outcome>
+    ) -> Attempt<Self::Outcome>
         ensures answer { (known : Knowledge) → H.seen host.old ≡ fresh known →
             Answers gives (tree self.now) known result (H.seen host.new) }
         ensures counted { runs.new ≡ runs.old + 1 };

@@ -2,14 +2,14 @@
 ghost use Rattle.std.specs.Prelude.{◌≡◌, IfSome, None, false};
 ghost use Rattle.std.specs.List.{list_any};
 ghost use Rattle.session_core.specs.Ends.{is_finished, without_outcome};
-ghost use Rattle.session_core.specs.declared.session.State.TheVariants.{Finished};
+ghost use Rattle.session_core.specs.declared.session.Progress.TheVariants.{Finished};
 ghost use Rattle.session_core.specs.Sessions.{is_waiting, waits_for};
 
 use pac_names::LookupName;
 
 /// What has become of a run.
 #[derive(Drop)]
-pub enum State<O> {
+pub enum Progress<O> {
     /// It waits for this name.
     Waiting(LookupName),
     /// It was whole.
@@ -30,54 +30,54 @@ pub enum SessionState {
 #[derive(Drop)]
 pub struct Session<R, O> {
     pub run: R,
-    pub state: State<O>,
+    pub progress: Progress<O>,
     pub runs: u64,
 }
 
 /// Whether it waits for this name.
-pub(crate) fn waits_for<O>(state: &State<O>, name: &LookupName) -> bool
-    ensures { result ≡ waits_for name.now state.now }
+pub(crate) fn waits_for<O>(progress: &Progress<O>, name: &LookupName) -> bool
+    ensures { result ≡ waits_for name.now progress.now }
 {
-    match state {
-        State::Waiting(other) => *other == *name,
-        State::Finished(_) => false,
-        State::Unanswered(_) => false,
+    match progress {
+        Progress::Waiting(other) => *other == *name,
+        Progress::Finished(_) => false,
+        Progress::Unanswered(_) => false,
     }
 }
 
 /// Whether it waits for a name.
-pub(crate) fn is_waiting<O>(state: &State<O>) -> bool
-    ensures { result ≡ is_waiting state.now }
+pub(crate) fn is_waiting<O>(progress: &Progress<O>) -> bool
+    ensures { result ≡ is_waiting progress.now }
 {
-    matches!(state, State::Waiting(_))
+    matches!(progress, Progress::Waiting(_))
 }
 
 /// Whether some of them wait for a name.
 pub(crate) fn some_wait<R, O>(sessions: &[Session<R, O>]) -> bool
-    ensures { result ≡ list_any (λ s. is_waiting s.state) sessions.now }
+    ensures { result ≡ list_any (λ s. is_waiting s.progress) sessions.now }
 {
-    sessions.iter().any(|session| is_waiting(&session.state))
+    sessions.iter().any(|session| is_waiting(&session.progress))
 }
 
-/// The state without the outcome.
-pub(crate) fn without_outcome<O>(state: &State<O>) -> SessionState
-    ensures { result ≡ without_outcome state.now }
+/// The same without the outcome.
+pub(crate) fn without_outcome<O>(progress: &Progress<O>) -> SessionState
+    ensures { result ≡ without_outcome progress.now }
 {
-    match state {
-        State::Waiting(name) => SessionState::Waiting(name.copy()),
-        State::Finished(_) => SessionState::Finished,
-        State::Unanswered(name) => SessionState::Unanswered(name.copy()),
+    match progress {
+        Progress::Waiting(name) => SessionState::Waiting(name.copy()),
+        Progress::Finished(_) => SessionState::Finished,
+        Progress::Unanswered(name) => SessionState::Unanswered(name.copy()),
     }
 }
 
 /// The outcome, where there is one.
-pub(crate) fn outcome_of<O>(state: &State<O>) -> Option<&O>
-    ensures none { result ≡ None → is_finished state.now ≡ false }
-    ensures some { IfSome result (λ outcome. state.now ≡ Finished outcome.now) }
+pub(crate) fn outcome_of<O>(progress: &Progress<O>) -> Option<&O>
+    ensures none { result ≡ None → is_finished progress.now ≡ false }
+    ensures some { IfSome result (λ outcome. progress.now ≡ Finished outcome.now) }
 {
-    match state {
-        State::Finished(outcome) => Some(outcome),
-        State::Waiting(_) => None,
-        State::Unanswered(_) => None,
+    match progress {
+        Progress::Finished(outcome) => Some(outcome),
+        Progress::Waiting(_) => None,
+        Progress::Unanswered(_) => None,
     }
 }

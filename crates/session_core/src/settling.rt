@@ -3,8 +3,8 @@ ghost use Rattle.std.specs.Prelude.{◌≡◌, ℕ, ◌+◌, IfOk, List, OnErr};
 ghost use Rattle.poll_loop.specs.Numbers.{GaveAll};
 ghost use Rattle.session_core.specs.Settling.{Settles, Awaits};
 
-use crate::{Run, RunAnswer, State};
-use answer_table::AnswerTable;
+use crate::lookups::Lookups;
+use crate::{Attempt, Progress, Run};
 use pac_names::LookupName;
 use pac_ports::Dice;
 use poll_log::Question;
@@ -18,32 +18,31 @@ use utf16_text::Memory;
 /// What has become of a run, and the question that is asked for it, if one is.
 #[derive(Drop)]
 pub(crate) struct Settled<O> {
-    pub(crate) state: State<O>,
+    pub(crate) progress: Progress<O>,
     pub(crate) asked: Option<Question>,
 }
 
-/// Runs once, over what the table knows. A name that is missed is asked, unless it was asked before.
+/// Runs once, over what was told. A name that is missed is asked, unless it was asked before.
 pub(crate) fn settle<R: Run, D: Dice, L: Ledger>(
     alloc: Global,
     run: &R,
-    table: &AnswerTable,
-    stub: &mut Stub,
+    lookups: &mut Lookups,
     dice: &mut D,
     runs: &mut Steps<L>,
 ) -> Result<Settled<R::Outcome>, Memory>
-    ensures ok { IfOk result (λ settled. Settles R.gives (R.tree run.now) table.now
-        stub.old stub.new (D.told dice.old) (D.told dice.new) settled) }
+    ensures ok { IfOk result (λ settled. Settles R.gives (R.tree run.now) lookups.old lookups.new
+        (D.told dice.old) (D.told dice.new) settled) }
     ensures memory { OnErr result ((more : List ℕ) × GaveAll (D.told dice.old) more (D.told dice.new)) }
     ensures ran { runs.new ≡ runs.old + 1 }
 {
-    let mut host = TracingHost::new(alloc, table);
+    let mut host = TracingHost::new(alloc, &lookups.table);
     match run.run(alloc, &mut host, runs) {
-        RunAnswer::Done(outcome) => Ok(Settled {
-            state: State::Finished(outcome),
+        Attempt::Done(outcome) => Ok(Settled {
+            progress: Progress::Finished(outcome),
             asked: None,
         }),
-        RunAnswer::Missing(name) => await_name(alloc, name, stub, dice),
-        RunAnswer::Memory => Err(Memory),
+        Attempt::Missing(name) => await_name(alloc, name, &mut lookups.stub, dice),
+        Attempt::Memory => Err(Memory),
     }
 }
 
@@ -59,19 +58,19 @@ fn await_name<O, D: Dice>(
 {
     if stub.is_dead(&name) {
         return Ok(Settled {
-            state: State::Unanswered(name),
+            progress: Progress::Unanswered(name),
             asked: None,
         });
     }
     if stub.in_flight(&name) {
         return Ok(Settled {
-            state: State::Waiting(name),
+            progress: Progress::Waiting(name),
             asked: None,
         });
     }
     let question = stub.ask(alloc, name.copy(), dice.id())?;
     Ok(Settled {
-        state: State::Waiting(name),
+        progress: Progress::Waiting(name),
         asked: Some(question),
     })
 }

@@ -3,7 +3,7 @@ use Rattle.std.proofs.Common.{◌≡◌, ℕ, ◌+◌, List, [], ◌∷◌, leng
 use Rattle.std.specs.List.{All}
 use Rattle.std.proofs.lemmas.List.Elements.{All-head, All-tail}
 use Rattle.poll_log.specs.declared.terms.Terms.{Terms}
-use Rattle.poll_log.specs.Turns.{Turns, Begin, Then, with_sent}
+use Rattle.poll_log.specs.Turns.{Outgoing, Turns, Begin, Then, with_sent}
 use Rattle.poll_log.specs.Told.{Map, told}
 use Rattle.poll_log.specs.Jobs.{Job, runs_of, told_to}
 use Rattle.poll_log.specs.Laws.{IsRestartable}
@@ -19,13 +19,13 @@ unfolding runs_of
 grown terms jobs h e sent = total-add (runs_of terms h) (λ job. told_to (job (told terms h)) (told terms (Then h e sent))) jobs
 
 -- each job was run once at the start
-pub runs_begin : (terms : Terms) (jobs : List Job) (sent : List (List ℕ)) → all_runs terms jobs (Begin sent) ≡ length jobs
+pub runs_begin : (terms : Terms) (jobs : List Job) (sent : List Outgoing) → all_runs terms jobs (Begin sent) ≡ length jobs
 unfolding runs_of
 runs_begin terms [] sent = refl
 runs_begin terms (job ∷ jobs) sent = let ih = runs_begin terms jobs sent in omega arith
 
 -- what is sent in a turn costs no run
-pub runs_with_sent : (terms : Terms) (jobs : List Job) (h : Turns) (sent : List (List ℕ)) → all_runs terms jobs (with_sent h sent) ≡ all_runs terms jobs h
+pub runs_with_sent : (terms : Terms) (jobs : List Job) (h : Turns) (sent : List Outgoing) → all_runs terms jobs (with_sent h sent) ≡ all_runs terms jobs h
 unfolding runs_of told
 runs_with_sent terms jobs (Begin sent) more = refl
 runs_with_sent terms jobs (Then h e sent) more = refl

@@ -10,6 +10,7 @@ use Rattle.js_host.specs.Seen.{Reply}
 use Rattle.run_trees.specs.RunTree.{RunTree, Done, Ask}
 use Rattle.pac_ports.specs.declared.link.Move.{Move}
 use Rattle.pac_ports.specs.declared.link.Move.TheVariants.{Sent, Given}
+use Rattle.pac_ports.specs.declared.link.Which.TheVariants.{First}
 use Rattle.dns_name.specs.Wire.{name_at, name_from, part_at}
 use Rattle.dns_message.specs.Question.{question_octets}
 use Rattle.dns_message.specs.Record.{record_at, facts_at}
@@ -19,7 +20,7 @@ use Rattle.poll_log.specs.declared.terms.Terms.{Terms}
 use Rattle.poll_log.specs.Turns.{Turns, Begin, Then, turns_of, with_moves}
 use Rattle.poll_log.specs.Turns as event
 use Rattle.poll_log.specs.Beats.{beats, ticks, stretches, is_beat}
-use Rattle.poll_log.specs.Questions.{IsQuestion, asked_by, firsts, new_among, number_in, octets_of, questions}
+use Rattle.poll_log.specs.Questions.{IsQuestion, asked_by, first_sent, firsts, new_among, number_in, octets_of, outgoing_from, questions}
 use Rattle.poll_log.specs.Told.{Map, age, told, accepted, accepted_in, is_dead, stopped_age, due_sends}
 use Rattle.poll_log.specs.Jobs.{IsPolled, is_waiting, once, runs_of}
 use Rattle.session_log.specs.Asked.{asked_from, asked_in, job_of}
@@ -95,7 +96,7 @@ asks_twice name = Ask name (λ first. Ask name (λ second. Done (first ∷ secon
 -- ---- two sessions over one name: it is sent once, and each is run twice
 
 abbrev pub shared : List Move
-shared = Sent (octets_of question_a) ∷ Given one_two ∷ []
+shared = Sent First (octets_of question_a) ∷ Given one_two ∷ []
 
 pub shared-runs : all_runs usual (job_of (asks a) ∷ job_of (asks a) ∷ []) (turns_of shared) ≡ 4
 unfolding runs_of told accepted accepted_in age firsts new_among asked_by question_octets with_moves is_beat beats ticks stretches number_in reply_of name_at name_from part_at record_at facts_at answer_on asked_from
@@ -104,11 +105,11 @@ shared-runs = refl
 -- ---- two sessions over two names, answered in turned order
 
 abbrev pub turned : List Move
-turned = Sent (octets_of question_a) ∷ Sent (octets_of question_b) ∷ Given two_of_b ∷ Given one_two ∷ []
+turned = Sent First (octets_of question_a) ∷ Sent First (octets_of question_b) ∷ Given two_of_b ∷ Given one_two ∷ []
 
 abbrev pub turned_turns : Turns
 turned_turns =
-    Then (Then (Begin (octets_of question_a ∷ octets_of question_b ∷ [])) (event.Given two_of_b) []) (event.Given one_two) []
+    Then (Then (Begin (first_sent (question_a ∷ question_b ∷ []))) (event.Given two_of_b) []) (event.Given one_two) []
 
 pub turned-is : turns_of turned ≡ turned_turns
 unfolding with_moves
@@ -119,15 +120,15 @@ unfolding runs_of told accepted accepted_in age firsts new_among asked_by questi
 turned-runs = refl
 
 pub turned-is_polled : IsPolled usual (job_of (asks a) ∷ job_of (asks b) ∷ []) turned_turns
-unfolding once told accepted accepted_in firsts new_among questions asked_by question_octets due_sends stopped_age age is_beat beats ticks stretches is_dead number_in reply_of name_at name_from part_at record_at facts_at answer_on asked_from
+unfolding once told accepted accepted_in firsts new_among questions asked_by question_octets due_sends stopped_age age is_beat beats ticks stretches is_dead number_in reply_of name_at name_from part_at record_at facts_at answer_on asked_from outgoing_from
 turned-is_polled =
     record {
       sends = (
         (
-          record { fresh = question_a ∷ question_b ∷ []; again = []; octets = refl; asks = refl; proper = proper_both; repeats = refl },
-          record { fresh = []; again = []; octets = refl; asks = refl; proper = All-nil IsQuestion; repeats = refl },
+          record { fresh = question_a ∷ question_b ∷ []; again = []; asks = refl; proper = proper_both; repeats = refl; out = refl },
+          record { fresh = []; again = []; asks = refl; proper = All-nil IsQuestion; repeats = refl; out = refl },
         ),
-        record { fresh = []; again = []; octets = refl; asks = refl; proper = All-nil IsQuestion; repeats = refl },
+        record { fresh = []; again = []; asks = refl; proper = All-nil IsQuestion; repeats = refl; out = refl },
       );
       waits = ((tt, refl), refl);
       ended = refl;
@@ -137,7 +138,7 @@ turned-is_polled =
 
 abbrev pub in_turn : Turns
 in_turn =
-    Then (Then (Then (Begin (octets_of question_a ∷ [])) (event.Given one_two) (octets_of question_b ∷ [])) (event.Given two_one) []) (event.Given two_of_b) []
+    Then (Then (Then (Begin (first_sent (question_a ∷ []))) (event.Given one_two) (first_sent (question_b ∷ []))) (event.Given two_one) []) (event.Given two_of_b) []
 
 pub in_turn-told : told usual in_turn a ≡ Some (ten 1)
 unfolding told accepted accepted_in age firsts new_among asked_by question_octets is_beat beats ticks stretches number_in reply_of name_at name_from part_at record_at facts_at answer_on
@@ -148,18 +149,18 @@ unfolding runs_of told accepted accepted_in age firsts new_among asked_by questi
 in_turn-runs = refl
 
 pub in_turn-is_polled : IsPolled usual (job_of asks_both ∷ []) in_turn
-unfolding once told accepted accepted_in firsts new_among questions asked_by question_octets due_sends stopped_age age is_beat beats ticks stretches is_dead number_in reply_of name_at name_from part_at record_at facts_at answer_on asked_from
+unfolding once told accepted accepted_in firsts new_among questions asked_by question_octets due_sends stopped_age age is_beat beats ticks stretches is_dead number_in reply_of name_at name_from part_at record_at facts_at answer_on asked_from outgoing_from
 in_turn-is_polled =
     record {
       sends = (
         (
           (
-            record { fresh = question_a ∷ []; again = []; octets = refl; asks = refl; proper = proper_a; repeats = refl },
-            record { fresh = question_b ∷ []; again = []; octets = refl; asks = refl; proper = proper_b; repeats = refl },
+            record { fresh = question_a ∷ []; again = []; asks = refl; proper = proper_a; repeats = refl; out = refl },
+            record { fresh = question_b ∷ []; again = []; asks = refl; proper = proper_b; repeats = refl; out = refl },
           ),
-          record { fresh = []; again = []; octets = refl; asks = refl; proper = All-nil IsQuestion; repeats = refl },
+          record { fresh = []; again = []; asks = refl; proper = All-nil IsQuestion; repeats = refl; out = refl },
         ),
-        record { fresh = []; again = []; octets = refl; asks = refl; proper = All-nil IsQuestion; repeats = refl },
+        record { fresh = []; again = []; asks = refl; proper = All-nil IsQuestion; repeats = refl; out = refl },
       );
       waits = (((tt, refl), refl), refl);
       ended = refl;
@@ -168,7 +169,7 @@ in_turn-is_polled =
 -- ---- that a name has no address is told too: it is sent once, and the run is run twice
 
 abbrev pub without : Turns
-without = Then (Begin (octets_of question_a ∷ [])) (event.Given none_of_a) []
+without = Then (Begin (first_sent (question_a ∷ []))) (event.Given none_of_a) []
 
 pub without-told : told usual without a ≡ Some NoAddress
 unfolding told accepted accepted_in age firsts new_among asked_by question_octets is_beat beats ticks stretches number_in reply_of name_at name_from part_at record_at facts_at answer_on

@@ -1,5 +1,5 @@
 -- The laws of runs over a log.
-use Rattle.std.specs.Prelude.{◌≡◌, ℕ, ◌+◌, ◌≤◌, List, ◌++◌, length, false}
+use Rattle.std.specs.Prelude.{◌≡◌, ◌+◌, ◌≤◌, List, ◌++◌, length, false}
 use Rattle.std.specs.FinMap as map
 use Rattle.std.specs.List.{All}
 use Rattle.js_host.specs.Answers.{Name, AnswerMap}
@@ -8,7 +8,7 @@ use Rattle.run_trees.specs.WholeRun.{asked_names, whole_run}
 use Rattle.run_trees.specs.Laws.{first_missing_of}
 use Rattle.pac_ports.specs.declared.link.Move.{Move}
 use Rattle.poll_log.specs.declared.terms.Terms.{Terms}
-use Rattle.poll_log.specs.Turns.{Turns, Then, Event, turns_of}
+use Rattle.poll_log.specs.Turns.{Outgoing, Turns, Then, Event, turns_of}
 use Rattle.poll_log.specs.Told.{told}
 use Rattle.poll_log.specs.Jobs.{Job, IsFinished, is_waiting, runs_of}
 use Rattle.poll_log.specs.Laws.{AsksInOrder, IsRestartable}
@@ -75,6 +75,6 @@ IsIsolated End =
 -- The runs that a log costs grow by the waits that its next event tells.
 abbrev pub RunsGrow : Type 0
 RunsGrow =
-    (terms : Terms) (jobs : List Job) (turns : Turns) (event : Event) (sent : List (List ℕ))
+    (terms : Terms) (jobs : List Job) (turns : Turns) (event : Event) (sent : List Outgoing)
     → all_runs terms jobs (Then turns event sent)
     ≡ all_runs terms jobs turns + waits_told jobs (told terms turns) (told terms (Then turns event sent))

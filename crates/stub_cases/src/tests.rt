@@ -3,6 +3,7 @@ ghost use Rattle.std.specs.Prelude.{◌+◌, ◌<◌, ◌≤◌, length};
 
 use dns_message::write_reply;
 use pac_names::{Answer, LookupName};
+use pac_ports::Which;
 use std::alloc::{AllocError, Global};
 use std::test::Fail;
 use stub_poller::Stub;
@@ -45,28 +46,48 @@ fn asking(alloc: Global, wait: u32, tries: u32, asked: &[(&[u8], u16)]) -> Resul
     Ok(stub)
 }
 
-// The beats from 1 to `last` at which something is sent again.
-fn resends(alloc: Global, stub: &mut Stub, last: u32) -> Result<Vec<u32>, AllocError> {
+// The beats from 1 to `last` at which the one question in flight is sent again, and whom to.
+fn resends(alloc: Global, stub: &mut Stub, last: u32) -> Result<Vec<(u32, Which)>, AllocError> {
     let mut beats = Vec::new(alloc);
     for beat in 1..=last {
-        if !stub.on_beat().resend.is_empty() {
-            beats.push(beat)?;
+        if let Some(sending) = stub.on_beat().resend.first() {
+            beats.push((beat, sending.to))?;
         }
     }
     Ok(beats)
 }
 
-// Wait, tries, the beats at which a question is sent again, and the beat at which its name is dead.
+// Wait, tries, the beats at which a question is sent again, and whom to, and the beat at which its name is dead: after 1,
+// 3, 7 waits and so on, to the second server and the first in turn. The first sending goes to the first server.
 #[test]
 fn repeats_and_deaths(rt: HostRuntime) -> Result<(), Fail> {
     let alloc = rt.alloc();
     for (wait, tries, again, death) in [
-        (10, 4, [10, 20, 30].as_slice(), 40),
+        (
+            10,
+            4,
+            [(10, Which::Second), (30, Which::First), (70, Which::Second)].as_slice(),
+            150,
+        ),
         (1, 1, &[], 1),
-        (1, 2, &[1], 2),
-        (3, 2, &[3], 6),
-        (1, 8, &[1, 2, 3, 4, 5, 6, 7], 8),
-        (1000, 2, &[1000], 2000),
+        (1, 2, &[(1, Which::Second)], 3),
+        (3, 2, &[(3, Which::Second)], 9),
+        (1, 3, &[(1, Which::Second), (3, Which::First)], 7),
+        (1000, 2, &[(1000, Which::Second)], 3000),
+        (
+            1,
+            8,
+            &[
+                (1, Which::Second),
+                (3, Which::First),
+                (7, Which::Second),
+                (15, Which::First),
+                (31, Which::Second),
+                (63, Which::First),
+                (127, Which::Second),
+            ],
+            255,
+        ),
     ] {
         let mut stub = asking(alloc, wait, tries, &[(b"example.com", 7)])?;
         let beats = resends(alloc, &mut stub, death - 1)?;
@@ -159,6 +180,19 @@ fn cut_doubled_and_late_replies(rt: HostRuntime) -> Result<(), Fail> {
     Ok(())
 }
 
+// After so many beats, whether a reply is taken: the question was sent to the first server only, then to the second one
+// too, and is given up. A datagram doesn't say which server it comes from.
+#[test]
+fn replies_of_either_server(rt: HostRuntime) -> Result<(), Fail> {
+    let alloc = rt.alloc();
+    for (beats, taken) in [(0, true), (1, true), (2, true), (3, false)] {
+        let mut stub = asking(alloc, 1, 2, &[(b"example.com", 0x1234)])?;
+        resends(alloc, &mut stub, beats)?;
+        assert_eq!(rt; stub.on_datagram(&REPLY).is_some(), taken, "{beats}");
+    }
+    Ok(())
+}
+
 fn front(buffer: &[u8; 512], count: usize) -> &[u8]
     requires { count ≤ 512 }
 {
@@ -166,7 +200,7 @@ fn front(buffer: &[u8; 512], count: usize) -> &[u8]
 }
 
 // Names, each under its number, in the order of asking, and the order in which they are answered: under one number for
-// all, too. What is left is sent again in the order of asking.
+// all, too. What is left is sent again in the order of asking, with its number.
 #[test]
 fn replies_in_any_order(rt: HostRuntime) -> Result<(), Fail> {
     let alloc = rt.alloc();
@@ -188,12 +222,14 @@ fn replies_in_any_order(rt: HostRuntime) -> Result<(), Fail> {
         assert!(rt; found.0 == name(b"b.example")?);
         assert_eq!(rt; found.1, address);
 
-        let report = stub.on_beat();
-        assert_eq!(rt; report.resend.len(), 2);
-        assert!(rt; report.resend[0].name == name(b"a.example")?);
-        assert_eq!(rt; report.resend[0].id, first);
-        assert!(rt; report.resend[1].name == name(b"c.example")?);
-        assert_eq!(rt; report.resend[1].id, third);
+        let again = stub.on_beat().resends(alloc)?;
+        assert_eq!(rt; again.len(), 2);
+        assert_eq!(rt; again[0].to, Which::Second);
+        assert!(rt; again[0].question.name == name(b"a.example")?);
+        assert_eq!(rt; again[0].question.id, first);
+        assert_eq!(rt; again[1].to, Which::Second);
+        assert!(rt; again[1].question.name == name(b"c.example")?);
+        assert_eq!(rt; again[1].question.id, third);
     }
     let mut stub = asking(alloc, 1, 8, &[(b"www.example.com", 1)])?;
     let found = stub.on_datagram(&ALIAS).ok_or("a reply")?;

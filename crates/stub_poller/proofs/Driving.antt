@@ -5,10 +5,11 @@ use mathlib.Core.Path.{fun_ext}
 use Rattle.pac_names.specs.declared.answer.Answer.{Answer}
 use Rattle.poll_log.specs.declared.question.Question.{Question}
 use Rattle.poll_log.specs.declared.terms.Terms.{Terms}
-use Rattle.poll_log.specs.Turns.{Turns, Begin, Then, Event, Given, Tick}
+use Rattle.poll_log.specs.Turns.{Outgoing, Turns, Begin, Then, Event, Given, Tick}
 use Rattle.poll_log.specs.Beats.{is_beat}
 use Rattle.poll_log.specs.Questions.{asked_in, firsts, has_name, new_among, was_sent}
-use Rattle.poll_log.specs.Told.{Map, accepted, age, limit, or_else, told}
+use Rattle.poll_log.specs.Sendings.{limit}
+use Rattle.poll_log.specs.Told.{Map, accepted, age, or_else, told}
 use Rattle.poll_log.specs.Moment.{dead_in, older}
 use Rattle.poll_log.proofs.Names.{AllNew, has_name-append, new_among-is_new, or-left}
 use Rattle.poll_log.proofs.Asking.{firsts_named}
@@ -47,7 +48,7 @@ driven_terms t (Then h e sent) =
     ∙ receiving_terms e (driven t h)
     ∙ driven_terms t h
 
-begun : (t : Terms) (sent : List (List ℕ)) → 0 < limit t → Shows (new_stub t) (told t (Begin sent)) (age (Begin sent)) []
+begun : (t : Terms) (sent : List Outgoing) → 0 < limit t → Shows (new_stub t) (told t (Begin sent)) (age (Begin sent)) []
 unfolding dead_in
 begun t sent p =
     record {
@@ -61,26 +62,26 @@ or_else_none : (r : Option Answer) → or_else r None ≡ r
 or_else_none None = refl
 or_else_none (Some x) = refl
 
-told_given : (t : Terms) (h : Turns) (d : List ℕ) (sent : List (List ℕ)) → told_by (limit t) (told t h) (age h) (firsts h) d ≡ told t (Then h (Given d) sent)
+told_given : (t : Terms) (h : Turns) (d : List ℕ) (sent : List Outgoing) → told_by (limit t) (told t h) (age h) (firsts h) d ≡ told t (Then h (Given d) sent)
 unfolding accepted
 told_given t h d sent = fun_ext (λ n. sym (told_next t h (Given d) sent n))
 
-told_tick : (t : Terms) (h : Turns) (sent : List (List ℕ)) → told t h ≡ told t (Then h Tick sent)
+told_tick : (t : Terms) (h : Turns) (sent : List Outgoing) → told t h ≡ told t (Then h Tick sent)
 unfolding accepted
 told_tick t h sent = fun_ext (λ n. sym (told_next t h Tick sent n ∙ or_else_none (told t h n)))
 
 -- what is told after an event
-received : (t : Terms) (h : Turns) (e : Event) (sent : List (List ℕ)) (stub : StubState) → stub.terms ≡ t → Shows stub (told t h) (age h) (firsts h) → Shows (receiving e stub) (told t (Then h e sent)) (age h) (firsts h)
+received : (t : Terms) (h : Turns) (e : Event) (sent : List Outgoing) (stub : StubState) → stub.terms ≡ t → Shows stub (told t h) (age h) (firsts h) → Shows (receiving e stub) (told t (Then h e sent)) (age h) (firsts h)
 received t h (Given d) sent stub same s =
     subst (λ M. Shows (given d stub) M (age h) (firsts h)) (ap (λ x. told_by (limit x) (told t h) (age h) (firsts h) d) same ∙ told_given t h d sent)
     (given_shows stub (told t h) (age h) (firsts h) d s (distinct h) (firsts_named h))
 received t h Tick sent stub same s = subst (λ M. Shows stub M (age h) (firsts h)) (told_tick t h sent) s
 
-untold_next : (t : Terms) (h : Turns) (e : Event) (sent : List (List ℕ)) (n : List ℕ) → was_sent h n ≡ false → told t (Then h e sent) n ≡ None
+untold_next : (t : Terms) (h : Turns) (e : Event) (sent : List Outgoing) (n : List ℕ) → was_sent h n ≡ false → told t (Then h e sent) n ≡ None
 untold_next t h e sent n k = told_next t h e sent n ∙ ap (λ r. or_else r (accepted t h e n)) (told_unsent t h n k) ∙ accepted_unsent t h e n k
 
 -- the ages after an event
-module _ (h : Turns) (e : Event) (sent : List (List ℕ)) where
+module _ (h : Turns) (e : Event) (sent : List Outgoing) where
   aged_by_beat : is_beat h e ≡ true → older (firsts (Then h e sent)) (age h) ≡ age (Then h e sent)
   aged_by_beat b = fun_ext (λ n. go n (was_sent (Then h e sent) n) refl)
     where

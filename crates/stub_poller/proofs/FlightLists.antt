@@ -1,10 +1,10 @@
 -- Lists of questions in flight.
-use Rattle.std.proofs.Common.{◌≡◌, ℕ, zero, suc, ◌+◌, ◌<◌, Bool, true, false, ◌&&◌, not, List, [], ◌∷◌, ◌++◌, map, take, drop, length, get_or, set, Option, Some, None, inl, inr, refl, sym, ◌∙◌, ap, arith}
-use Rattle.std.specs.List.{All, filter}
+use Rattle.std.proofs.Common.{◌≡◌, ℕ, zero, suc, ◌+◌, ◌<◌, Bool, true, false, ◌&&◌, not, List, [], ◌∷◌, ◌++◌, map, take, drop, length, get_or, set, Option, Some, None, filter_map, option_to_list, inl, inr, refl, sym, ◌∙◌, ap, arith}
+use Rattle.std.specs.List.{All, cons_option, filter}
 use Rattle.std.specs.Prelude.{nat_le, nat_lt}
 use Rattle.std.proofs.lemmas.Bool.{ne_eqb, cases_lt, lt-leb, lt-ltb, le-leb, le-ltb, ltb-true, not_from_true, not_from_false}
-use Rattle.std.proofs.lemmas.List.{length-map}
-use Rattle.std.proofs.lemmas.List.Elements.{All-head, All-same, All-tail, All-weaker, filter_passes}
+use Rattle.std.proofs.lemmas.List.{length-map, take_more}
+use Rattle.std.proofs.lemmas.List.Elements.{All-head, All-same, All-tail, All-weaker, filter_map-append, filter_passes}
 use Rattle.std.proofs.lemmas.List.Filters.{length-filter_both}
 use Rattle.pac_names.specs.declared.answer.Answer.{Answer}
 use Rattle.dns_message.specs.Header.{header_of}
@@ -12,7 +12,9 @@ use Rattle.dns_message.specs.Numbers.{number_at}
 use Rattle.dns_message.specs.Reply.{reply_of}
 use Rattle.dns_message.proofs.Replies.{no_response}
 use Rattle.poll_log.specs.declared.flight.Flight.{Flight}
-use Rattle.stub_poller.specs.State.{aged, answer_to, answered_by, unanswered_by, named_or, left_unless, is_over, is_young, name_of}
+use Rattle.poll_log.specs.declared.sending.Sending.{Sending}
+use Rattle.poll_log.specs.declared.terms.Terms.{Terms}
+use Rattle.stub_poller.specs.State.{aged, answer_to, answered_by, unanswered_by, named_or, left_unless, is_over, is_young, name_of, sending_of}
 
 -- a reply carries the number of its question
 pub other_number : (datagram name : List ℕ) (id : ℕ) → (id ≡ number_at datagram 0 → ⊥) → reply_of datagram id name ≡ None
@@ -94,3 +96,14 @@ pub all_young : (limit : ℕ) (flights kept : List Flight) → kept ≡ filter (
 all_young limit flights kept e =
     All-same (λ f. f.age < limit) kept (filter (is_young limit) flights) e
     (All-weaker (λ f. is_young limit f ≡ true) (λ f. f.age < limit) (λ f h. ltb-true f.age limit h) (filter (is_young limit) flights) (filter_passes (is_young limit) flights))
+
+-- one flight more is looked at for a sending that falls due
+pub more_due : (t : Terms) (flights : List Flight) (n : ℕ) (d : Flight) → n < length flights → filter_map (sending_of t) (take (n + 1) flights) ≡ filter_map (sending_of t) (take n flights) ++ option_to_list (sending_of t (get_or flights n d))
+more_due t flights n d low =
+    ap (filter_map (sending_of t)) (take_more flights n d low)
+    ∙ filter_map-append (sending_of t) (take n flights) (get_or flights n d ∷ [])
+    ∙ ap (λ l. filter_map (sending_of t) (take n flights) ++ l) (alone (sending_of t (get_or flights n d)))
+  where
+    alone : (r : Option Sending) → cons_option r [] ≡ option_to_list r
+    alone None = refl
+    alone (Some s) = refl

@@ -1,3 +1,5 @@
+pub mod Ages
 pub mod FlightLists
 pub mod Showing
 pub mod Driving
+pub mod Falling

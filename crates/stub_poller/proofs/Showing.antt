@@ -1,7 +1,8 @@
 -- From one moment to the next: a question is asked, a datagram comes, a beat passes.
-use Rattle.std.proofs.Common.{◌≡◌, ℕ, ◌+◌, ◌*◌, ◌%◌, ◌<◌, Bool, true, false, cond, ◌||◌, ◌&&◌, not, List, [], ◌∷◌, ◌++◌, map, Option, Some, None, is_none, refl, sym, ◌∙◌, ap, subst, arith, nat_lt, nat_le, ◌==◌}
+use Rattle.std.proofs.Common.{◌≡◌, ℕ, ◌+◌, ◌<◌, Bool, true, false, cond, ◌||◌, ◌&&◌, not, List, [], ◌∷◌, ◌++◌, map, Option, Some, None, is_none, option_map, refl, sym, ◌∙◌, ap, subst, arith, nat_lt, nat_le}
 use Rattle.std.specs.Prelude.{IsSome, is_some}
-use Rattle.std.specs.List.{AllByRecursion, filter}
+use Rattle.std.specs.List.{AllByRecursion, cons_option, filter, filter_map}
+use Rattle.std.proofs.lemmas.Bool.{ltb-false}
 use Rattle.std.proofs.lemmas.Bool.Decides.{nat_tests}
 use Rattle.std.proofs.lemmas.List.{map-append}
 use Rattle.std.proofs.lemmas.List.Elements.{filter-append}
@@ -10,16 +11,19 @@ use Rattle.dns_message.specs.Reply.{reply_of}
 use Rattle.dns_message.proofs.QueryLaws.{one_name_law}
 use Rattle.poll_log.specs.declared.flight.Flight.{Flight}
 use Rattle.poll_log.specs.declared.question.Question.{Question}
+use Rattle.poll_log.specs.declared.sending.Sending.{Sending}
 use Rattle.poll_log.specs.declared.terms.Terms.{Terms}
-use Rattle.poll_log.specs.Questions.{has_name, number_in, same_name}
-use Rattle.poll_log.specs.Told.{Map, accepted_in, limit, or_else, reply_to}
-use Rattle.poll_log.specs.Moment.{dead_in, flies, flight_at, flights_in, is_sent_again, older}
+use Rattle.poll_log.specs.Questions.{has_name, number_in, numbered_sending, same_name}
+use Rattle.poll_log.specs.Sendings.{limit, sending_at}
+use Rattle.poll_log.specs.Told.{Map, accepted_in, or_else, reply_to}
+use Rattle.poll_log.specs.Moment.{dead_in, flies, flight_at, flights_in, older, sent_again}
 use Rattle.poll_log.proofs.Names.{AllNew, and-false, and-true, has, has-append, has_name-append, or-first, or-left, or-right, or-true, same_is, same_itself, true_false}
 use Rattle.poll_log.proofs.Counts.{has_itself}
 use Rattle.poll_log.proofs.Asking.{HasLookupName}
-use Rattle.stub_poller.specs.State.{StubState, aged, answer_to, asking, beaten, dying, given, is_dead_in, is_over, is_young, left_unless, name_of, question_of, resent, unanswered_by}
-use Rattle.stub_poller.specs.State as state
+use Rattle.poll_log.proofs.TurnLaws.{late_none}
+use Rattle.stub_poller.specs.State.{StubState, aged, answer_to, asking, beaten, dying, given, is_over, is_young, left_unless, name_of, resent, sending_of, unanswered_by}
 use Rattle.stub_poller.specs.Shows.{Shows}
+use Rattle.stub_poller.proofs.Ages.{has_tries, has_wait}
 use Rattle.stub_poller.proofs.FlightLists.{over_or_young}
 
 pub flights_cons : (L : ℕ) (M : Map) (a : List ℕ → ℕ) (q : Question) (F : List Question) → flights_in L M a (q ∷ F) ≡ cond (flies L M a q.name) (flight_at a q ∷ flights_in L M a F) (flights_in L M a F)
@@ -39,11 +43,14 @@ unfolding flights_in
 flights-append L M a F G = ap (map (flight_at a)) (filter-append (λ (q : Question). flies L M a q.name) F G) ∙ map-append (flight_at a) (filter (λ q. flies L M a q.name) F) (filter (λ q. flies L M a q.name) G)
 
 -- A question is asked.
+young_at_first : (L : ℕ) → 0 < L → nat_lt 0 L ≡ true
+young_at_first L p = grind (arith, nat_tests)
+
+not_over_at_first : (L : ℕ) → 0 < L → nat_le L 0 ≡ false
+not_over_at_first L p = grind (arith, nat_tests)
+
 young_flies : (L : ℕ) (M : Map) (a : List ℕ → ℕ) (n : List ℕ) → M n ≡ None → a n ≡ 0 → 0 < L → flies L M a n ≡ true
-young_flies L M a n u z p = ap (λ r. is_none r && nat_lt (a n) L) u ∙ ap (λ x. nat_lt x L) z ∙ (low p)
-  where
-    low : 0 < L → nat_lt 0 L ≡ true
-    low p = grind (arith, nat_tests)
+young_flies L M a n u z p = ap (λ r. is_none r && nat_lt (a n) L) u ∙ ap (λ x. nat_lt x L) z ∙ young_at_first L p
 
 pub asked_shows : (stub : StubState) (M : Map) (a : List ℕ → ℕ) (F : List Question) (q : Question) → Shows stub M a F → has_name q.name F ≡ false → M q.name ≡ None → Shows (asking q stub) M a (F ++ q ∷ [])
 unfolding dead_in
@@ -89,12 +96,9 @@ asked_shows stub M a F q s new u =
     dead n true e =
         let here : a n ≡ 0 = ap a (sym (same_is _ _ e)) ∙ s.young q.name new in
         ap (λ x. ((has_name n F && (false || has_name n F)) && is_none (M n)) && nat_le L x) here
-        ∙ ap (λ b. ((has_name n F && (false || has_name n F)) && is_none (M n)) && b) (late s.lasting)
+        ∙ ap (λ b. ((has_name n F && (false || has_name n F)) && is_none (M n)) && b) (not_over_at_first L s.lasting)
         ∙ and-false _
-        ∙ sym (ap (λ x. (has_name n (F ++ q ∷ []) && is_none (M n)) && nat_le L x) here ∙ ap (λ b. (has_name n (F ++ q ∷ []) && is_none (M n)) && b) (late s.lasting) ∙ and-false _)
-      where
-        late : 0 < L → nat_le L 0 ≡ false
-        late p = grind (arith, nat_tests)
+        ∙ sym (ap (λ x. (has_name n (F ++ q ∷ []) && is_none (M n)) && nat_le L x) here ∙ ap (λ b. (has_name n (F ++ q ∷ []) && is_none (M n)) && b) (not_over_at_first L s.lasting) ∙ and-false _)
 
 -- A datagram comes.
 -- at most one of the flights is answered
@@ -235,9 +239,9 @@ aged_tail q G a b h n e = h n (second (same_name q.name n) (has_name n G) e)
     second true y e = refl
     second false y e = e
 
-module _ (t : Terms) (M : Map) (a b : List ℕ → ℕ) where
-  flies_aged : (n : List ℕ) → b n ≡ a n + 1 → flies (t.wait * t.tries) M b n ≡ (flies (t.wait * t.tries) M a n && nat_lt (a n + 1) (t.wait * t.tries))
-  flies_aged n e = ap (λ x. is_none (M n) && nat_lt x (t.wait * t.tries)) e ∙ go (is_none (M n)) (nat_lt (a n) (t.wait * t.tries)) (nat_lt (a n + 1) (t.wait * t.tries)) (λ f. grind (arith, nat_tests))
+module _ (L : ℕ) (M : Map) (a b : List ℕ → ℕ) where
+  flies_aged : (n : List ℕ) → b n ≡ a n + 1 → flies L M b n ≡ (flies L M a n && nat_lt (a n + 1) L)
+  flies_aged n e = ap (λ x. is_none (M n) && nat_lt x L) e ∙ go (is_none (M n)) (nat_lt (a n) L) (nat_lt (a n + 1) L) (λ f. grind (arith, nat_tests))
     where
       go : (m x y : Bool) → (y ≡ true → x ≡ true) → (m && y) ≡ ((m && x) && y)
       go true true y h = refl
@@ -245,64 +249,38 @@ module _ (t : Terms) (M : Map) (a b : List ℕ → ℕ) where
       go true false false h = refl
       go false x y h = refl
 
-  young_flights : (G : List Question) → Aged G a b → filter (is_young (t.wait * t.tries)) (map aged (flights_in (t.wait * t.tries) M a G)) ≡ flights_in (t.wait * t.tries) M b G
-  young_flights [] h = ap (λ l. filter (is_young (t.wait * t.tries)) (map aged l)) (flights_nil (t.wait * t.tries) M a) ∙ sym (flights_nil (t.wait * t.tries) M b)
+  young_flights : (G : List Question) → Aged G a b → filter (is_young L) (map aged (flights_in L M a G)) ≡ flights_in L M b G
+  young_flights [] h = ap (λ l. filter (is_young L) (map aged l)) (flights_nil L M a) ∙ sym (flights_nil L M b)
   young_flights (q ∷ G) h =
-      ap (λ l. filter (is_young (t.wait * t.tries)) (map aged l)) (flights_cons (t.wait * t.tries) M a q G)
-      ∙ go (flies (t.wait * t.tries) M a q.name) (aged_head q G a b h)
-      ∙ ap (λ l. cond (flies (t.wait * t.tries) M a q.name && nat_lt (a q.name + 1) (t.wait * t.tries)) (flight_at b q ∷ l) l) (young_flights G (aged_tail q G a b h))
-      ∙ ap (λ c. cond c (flight_at b q ∷ flights_in (t.wait * t.tries) M b G) (flights_in (t.wait * t.tries) M b G)) (sym (flies_aged q.name (aged_head q G a b h)))
-      ∙ sym (flights_cons (t.wait * t.tries) M b q G)
+      ap (λ l. filter (is_young L) (map aged l)) (flights_cons L M a q G)
+      ∙ go (flies L M a q.name) (aged_head q G a b h)
+      ∙ ap (λ l. cond (flies L M a q.name && nat_lt (a q.name + 1) L) (flight_at b q ∷ l) l) (young_flights G (aged_tail q G a b h))
+      ∙ ap (λ c. cond c (flight_at b q ∷ flights_in L M b G) (flights_in L M b G)) (sym (flies_aged q.name (aged_head q G a b h)))
+      ∙ sym (flights_cons L M b q G)
     where
       rest : List Flight
-      rest = filter (is_young (t.wait * t.tries)) (map aged (flights_in (t.wait * t.tries) M a G))
+      rest = filter (is_young L) (map aged (flights_in L M a G))
 
-      go : (c : Bool) → b q.name ≡ a q.name + 1 → filter (is_young (t.wait * t.tries)) (map aged (cond c (flight_at a q ∷ flights_in (t.wait * t.tries) M a G) (flights_in (t.wait * t.tries) M a G))) ≡ cond (c && nat_lt (a q.name + 1) (t.wait * t.tries)) (flight_at b q ∷ filter (is_young (t.wait * t.tries)) (map aged (flights_in (t.wait * t.tries) M a G))) (filter (is_young (t.wait * t.tries)) (map aged (flights_in (t.wait * t.tries) M a G)))
-      go true k = ap (λ (x : ℕ). let f : Flight = record { question = q; age = x } in cond (nat_lt (a q.name + 1) (t.wait * t.tries)) (f ∷ rest) rest) (sym k)
+      go : (c : Bool) → b q.name ≡ a q.name + 1 → filter (is_young L) (map aged (cond c (flight_at a q ∷ flights_in L M a G) (flights_in L M a G))) ≡ cond (c && nat_lt (a q.name + 1) L) (flight_at b q ∷ filter (is_young L) (map aged (flights_in L M a G))) (filter (is_young L) (map aged (flights_in L M a G)))
+      go true k = ap (λ (x : ℕ). let f : Flight = record { question = q; age = x } in cond (nat_lt (a q.name + 1) L) (f ∷ rest) rest) (sym k)
       go false k = refl
 
-  again_flights : (G : List Question) → Aged G a b → map question_of (filter (state.is_sent_again t) (map aged (flights_in (t.wait * t.tries) M a G))) ≡ filter (is_sent_again t M b) G
-  again_flights [] h = ap (λ l. map question_of (filter (state.is_sent_again t) (map aged l))) (flights_nil (t.wait * t.tries) M a)
-  again_flights (q ∷ G) h =
-      ap (λ l. map question_of (filter (state.is_sent_again t) (map aged l))) (flights_cons (t.wait * t.tries) M a q G)
-      ∙ go (flies (t.wait * t.tries) M a q.name) (nat_lt (a q.name + 1) (t.wait * t.tries) && ((a q.name + 1) % t.wait == 0)) refl
-      ∙ ap (λ l. cond (flies (t.wait * t.tries) M a q.name && (nat_lt (a q.name + 1) (t.wait * t.tries) && ((a q.name + 1) % t.wait == 0))) (q ∷ l) l) (again_flights G (aged_tail q G a b h))
-      ∙ ap (λ c. cond c (q ∷ filter (is_sent_again t M b) G) (filter (is_sent_again t M b) G)) (sym same)
-    where
-      same : (flies (t.wait * t.tries) M b q.name && ((b q.name % t.wait) == 0)) ≡ (flies (t.wait * t.tries) M a q.name && (nat_lt (a q.name + 1) (t.wait * t.tries) && ((a q.name + 1) % t.wait == 0)))
-      same =
-          ap (λ c. c && ((b q.name % t.wait) == 0)) (flies_aged q.name (aged_head q G a b h))
-          ∙ ap (λ x. (flies (t.wait * t.tries) M a q.name && nat_lt (a q.name + 1) (t.wait * t.tries)) && ((x % t.wait) == 0)) (aged_head q G a b h)
-          ∙ assoc (flies (t.wait * t.tries) M a q.name) (nat_lt (a q.name + 1) (t.wait * t.tries)) ((a q.name + 1) % t.wait == 0)
-        where
-          assoc : (x y z : Bool) → ((x && y) && z) ≡ (x && (y && z))
-          assoc true y z = refl
-          assoc false y z = refl
-
-      rest : List Flight
-      rest = filter (state.is_sent_again t) (map aged (flights_in (t.wait * t.tries) M a G))
-
-      go : (c e : Bool) → (nat_lt (a q.name + 1) (t.wait * t.tries) && ((a q.name + 1) % t.wait == 0)) ≡ e → map question_of (filter (state.is_sent_again t) (map aged (cond c (flight_at a q ∷ flights_in (t.wait * t.tries) M a G) (flights_in (t.wait * t.tries) M a G)))) ≡ cond (c && e) (q ∷ map question_of (filter (state.is_sent_again t) (map aged (flights_in (t.wait * t.tries) M a G)))) (map question_of (filter (state.is_sent_again t) (map aged (flights_in (t.wait * t.tries) M a G))))
-      go true true e = ap (λ x. map question_of (cond x (aged (flight_at a q) ∷ rest) rest)) e
-      go true false e = ap (λ x. map question_of (cond x (aged (flight_at a q) ∷ rest) rest)) e
-      go false x e = refl
-
-  deaths : (G : List Question) (n : List ℕ) → has n (map name_of (filter (is_over (t.wait * t.tries)) (map aged (flights_in (t.wait * t.tries) M a G)))) ≡ ((has_name n G && flies (t.wait * t.tries) M a n) && not (nat_lt (a n + 1) (t.wait * t.tries)))
-  deaths [] n = ap (λ l. has n (map name_of (filter (is_over (t.wait * t.tries)) (map aged l)))) (flights_nil (t.wait * t.tries) M a)
+  deaths : (G : List Question) (n : List ℕ) → has n (map name_of (filter (is_over L) (map aged (flights_in L M a G)))) ≡ ((has_name n G && flies L M a n) && not (nat_lt (a n + 1) L))
+  deaths [] n = ap (λ l. has n (map name_of (filter (is_over L) (map aged l)))) (flights_nil L M a)
   deaths (q ∷ G) n =
-      ap (λ l. has n (map name_of (filter (is_over (t.wait * t.tries)) (map aged l)))) (flights_cons (t.wait * t.tries) M a q G)
-      ∙ go (flies (t.wait * t.tries) M a q.name)
-      ∙ bools (flies (t.wait * t.tries) M a q.name) (nat_lt (a q.name + 1) (t.wait * t.tries)) (same_name q.name n) refl _ (has_name n G) (flies (t.wait * t.tries) M a n) (nat_lt (a n + 1) (t.wait * t.tries)) (deaths G n) (λ e. let f : q.name ≡ n = same_is _ _ e in (ap (flies (t.wait * t.tries) M a) f, ap (λ m. nat_lt (a m + 1) (t.wait * t.tries)) f))
+      ap (λ l. has n (map name_of (filter (is_over L) (map aged l)))) (flights_cons L M a q G)
+      ∙ go (flies L M a q.name)
+      ∙ bools (flies L M a q.name) (nat_lt (a q.name + 1) L) (same_name q.name n) refl _ (has_name n G) (flies L M a n) (nat_lt (a n + 1) L) (deaths G n) (λ e. let f : q.name ≡ n = same_is _ _ e in (ap (flies L M a) f, ap (λ m. nat_lt (a m + 1) L) f))
     where
       rest : List Flight
-      rest = filter (is_over (t.wait * t.tries)) (map aged (flights_in (t.wait * t.tries) M a G))
+      rest = filter (is_over L) (map aged (flights_in L M a G))
 
       pick : (x : Bool) → has n (map name_of (cond x (aged (flight_at a q) ∷ rest) rest)) ≡ cond x (same_name q.name n || has n (map name_of rest)) (has n (map name_of rest))
       pick true = refl
       pick false = refl
 
-      go : (c : Bool) → has n (map name_of (filter (is_over (t.wait * t.tries)) (map aged (cond c (flight_at a q ∷ flights_in (t.wait * t.tries) M a G) (flights_in (t.wait * t.tries) M a G))))) ≡ cond (c && not (nat_lt (a q.name + 1) (t.wait * t.tries))) (same_name q.name n || has n (map name_of (filter (is_over (t.wait * t.tries)) (map aged (flights_in (t.wait * t.tries) M a G))))) (has n (map name_of (filter (is_over (t.wait * t.tries)) (map aged (flights_in (t.wait * t.tries) M a G)))))
-      go true = pick (nat_le (t.wait * t.tries) (a q.name + 1)) ∙ ap (λ x. cond x (same_name q.name n || has n (map name_of rest)) (has n (map name_of rest))) (over_or_young (t.wait * t.tries) (a q.name + 1))
+      go : (c : Bool) → has n (map name_of (filter (is_over L) (map aged (cond c (flight_at a q ∷ flights_in L M a G) (flights_in L M a G))))) ≡ cond (c && not (nat_lt (a q.name + 1) L)) (same_name q.name n || has n (map name_of (filter (is_over L) (map aged (flights_in L M a G))))) (has n (map name_of (filter (is_over L) (map aged (flights_in L M a G)))))
+      go true = pick (nat_le L (a q.name + 1)) ∙ ap (λ x. cond x (same_name q.name n || has n (map name_of rest)) (has n (map name_of rest))) (over_or_young L (a q.name + 1))
       go false = refl
 
       bools : (c e k : Bool) → same_name q.name n ≡ k → (x y f l : Bool) → x ≡ ((y && f) && not l) → (k ≡ true → (c ≡ f) × (e ≡ l)) → cond (c && not e) (same_name q.name n || x) x ≡ (((same_name q.name n || y) && f) && not l)
@@ -318,6 +296,34 @@ module _ (t : Terms) (M : Map) (a b : List ℕ → ℕ) where
           same true = refl
           same false = refl
 
+-- what falls due of the flights, one beat older
+module _ (t : Terms) (lasting : 0 < limit t) (M : Map) (a b : List ℕ → ℕ) where
+  abbrev due : Question → ℕ → Option Sending
+  due q age = option_map (numbered_sending q) (sending_at t age)
+
+  due_young : (q : Question) (age : ℕ) (c l : Bool) → nat_lt age (limit t) ≡ l → cond (c && l) (due q age) None ≡ cond c (due q age) None
+  due_young q age false l e = refl
+  due_young q age true true e = refl
+  due_young q age true false e = sym (ap (option_map (numbered_sending q)) (late_none t (has_wait t lasting) (has_tries t lasting) age (ltb-false age (limit t) e)))
+
+  due_aged : (q : Question) → b q.name ≡ a q.name + 1 → sent_again t M b q ≡ cond (flies (limit t) M a q.name) (due q (a q.name + 1)) None
+  due_aged q e =
+      ap (λ c. cond c (due q (b q.name)) None) (flies_aged (limit t) M a b q.name e)
+      ∙ ap (λ x. cond (flies (limit t) M a q.name && nat_lt (a q.name + 1) (limit t)) (due q x) None) e
+      ∙ due_young q (a q.name + 1) (flies (limit t) M a q.name) (nat_lt (a q.name + 1) (limit t)) refl
+
+  again_flights : (G : List Question) → Aged G a b → filter_map (sending_of t) (map aged (flights_in (limit t) M a G)) ≡ filter_map (sent_again t M b) G
+  again_flights [] h = ap (λ l. filter_map (sending_of t) (map aged l)) (flights_nil (limit t) M a)
+  again_flights (q ∷ G) h =
+      ap (λ l. filter_map (sending_of t) (map aged l)) (flights_cons (limit t) M a q G)
+      ∙ go (flies (limit t) M a q.name)
+      ∙ ap (cons_option (cond (flies (limit t) M a q.name) (due q (a q.name + 1)) None)) (again_flights G (aged_tail q G a b h))
+      ∙ ap (λ r. cons_option r (filter_map (sent_again t M b) G)) (sym (due_aged q (aged_head q G a b h)))
+    where
+      go : (c : Bool) → filter_map (sending_of t) (map aged (cond c (flight_at a q ∷ flights_in (limit t) M a G) (flights_in (limit t) M a G))) ≡ cons_option (cond c (due q (a q.name + 1)) None) (filter_map (sending_of t) (map aged (flights_in (limit t) M a G)))
+      go true = refl
+      go false = refl
+
 pub older_age : (F : List Question) (a : List ℕ → ℕ) (n : List ℕ) → has_name n F ≡ true → older F a n ≡ a n + 1
 unfolding older
 older_age F a n e = ap (λ b. cond b (a n + 1) 0) e
@@ -326,15 +332,18 @@ pub older_none : (F : List Question) (a : List ℕ → ℕ) (n : List ℕ) → h
 unfolding older
 older_none F a n e = ap (λ b. cond b (a n + 1) 0) e
 
+dies_older : (L x : ℕ) → (nat_le L x || (nat_lt x L && not (nat_lt (x + 1) L))) ≡ nat_le L (x + 1)
+dies_older L x = grind (arith, nat_tests)
+
 pub beaten_shows : (stub : StubState) (M : Map) (a : List ℕ → ℕ) (F : List Question) → Shows stub M a F → Shows (beaten stub) M (older F a) F
 unfolding dead_in
 beaten_shows stub M a F s =
     record {
-      flying = ap (λ l. filter (is_young L) (map aged l)) s.flying ∙ young_flights stub.terms M a (older F a) F (older_age F a);
+      flying = ap (λ l. filter (is_young L) (map aged l)) s.flying ∙ young_flights L M a (older F a) F (older_age F a);
       dying = λ n.
           has-append n stub.dead (dying stub)
           ∙ ap (λ b. b || has n (dying stub)) (s.dying n)
-          ∙ ap (λ b. dead_in L M a F n || b) (ap (λ l. has n (map name_of (filter (is_over L) (map aged l)))) s.flying ∙ deaths stub.terms M a (older F a) F n)
+          ∙ ap (λ b. dead_in L M a F n || b) (ap (λ l. has n (map name_of (filter (is_over L) (map aged l)))) s.flying ∙ deaths L M a (older F a) F n)
           ∙ go n (has_name n F) refl (is_none (M n));
       young = older_none F a;
       lasting = s.lasting;
@@ -343,14 +352,11 @@ beaten_shows stub M a F s =
     L : ℕ
     L = limit stub.terms
 
-    older_dead : (x : ℕ) → (nat_le L x || (nat_lt x L && not (nat_lt (x + 1) L))) ≡ nat_le L (x + 1)
-    older_dead x = grind (arith, nat_tests)
-
     go : (n : List ℕ) (b : Bool) → has_name n F ≡ b → (m : Bool) → (((b && m) && nat_le L (a n)) || ((b && (m && nat_lt (a n) L)) && not (nat_lt (a n + 1) L))) ≡ ((b && m) && nat_le L (older F a n))
-    go n true h true = older_dead (a n) ∙ ap (nat_le L) (sym (older_age F a n h))
+    go n true h true = dies_older L (a n) ∙ ap (nat_le L) (sym (older_age F a n h))
     go n true h false = refl
     go n false h m = refl
 
 -- what a beat sends again
-pub resent_shows : (stub : StubState) (M : Map) (a : List ℕ → ℕ) (F : List Question) → Shows stub M a F → resent stub ≡ filter (is_sent_again stub.terms M (older F a)) F
-resent_shows stub M a F s = ap (λ l. map question_of (filter (state.is_sent_again stub.terms) (map aged l))) s.flying ∙ again_flights stub.terms M a (older F a) F (older_age F a)
+pub resent_shows : (stub : StubState) (M : Map) (a : List ℕ → ℕ) (F : List Question) → Shows stub M a F → resent stub ≡ filter_map (sent_again stub.terms M (older F a)) F
+resent_shows stub M a F s = ap (λ l. filter_map (sending_of stub.terms) (map aged l)) s.flying ∙ again_flights stub.terms s.lasting M a (older F a) F (older_age F a)

@@ -5,7 +5,8 @@ use Rattle.poll_log.specs.declared.terms.Terms.{Terms}
 use Rattle.poll_log.specs.Turns.{Turns, Begin, Then, Event, Given, Tick}
 use Rattle.poll_log.specs.Beats.{is_beat}
 use Rattle.poll_log.specs.Questions.{asked_in, firsts, new_among}
-use Rattle.poll_log.specs.Told.{age, limit, told}
+use Rattle.poll_log.specs.Sendings.{limit}
+use Rattle.poll_log.specs.Told.{age, told}
 use Rattle.stub_poller.specs.State.{StubState, asking, beaten, given, new_stub}
 use Rattle.stub_poller.specs.Shows.{Shows}
 

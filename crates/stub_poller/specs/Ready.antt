@@ -1,17 +1,8 @@
 -- What each stub keeps: terms in their ranges, ages below the limit, and room for the reports of all beats to come.
 use Rattle.std.specs.Prelude.{◌+◌, ◌<◌, ◌≤◌, vec_len, vec_capacity}
 use Rattle.std.specs.List.{All}
-use Rattle.poll_log.specs.declared.terms.TheConstants.{MOST_TRIES, MOST_WAIT}
-use Rattle.poll_log.specs.declared.terms.Terms.{Terms}
-use Rattle.poll_log.specs.Told.{limit}
+use Rattle.poll_log.specs.Sendings.{AreTerms, limit}
 use Rattle.stub_poller.specs.declared.stub.Stub.TheInside.{Inside}
-
--- waits and tries of 1 to their most
-pub record AreTerms (terms : Terms) : Type 0 where
-  pub waits : 0 < terms.wait
-  pub wait : terms.wait ≤ MOST_WAIT
-  pub tried : 0 < terms.tries
-  pub tries : terms.tries ≤ MOST_TRIES
 
 pub record IsReady (stub : Inside) : Type 0 where
   pub terms : AreTerms stub.terms

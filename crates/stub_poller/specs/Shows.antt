@@ -2,7 +2,8 @@
 use Rattle.std.specs.Prelude.{◌≡◌, ℕ, ◌<◌, false, List}
 use Rattle.poll_log.specs.declared.question.Question.{Question}
 use Rattle.poll_log.specs.Questions.{has_name}
-use Rattle.poll_log.specs.Told.{Map, limit}
+use Rattle.poll_log.specs.Sendings.{limit}
+use Rattle.poll_log.specs.Told.{Map}
 use Rattle.poll_log.specs.Moment.{flights_in, dead_in}
 use Rattle.stub_poller.specs.State.{StubState, is_dead_in}
 

@@ -1,13 +1,14 @@
 -- What a stub is seen as, and what asking, a datagram and a beat do to it.
-use Rattle.std.specs.Prelude.{ℕ, ◌+◌, ◌%◌, Bool, ◌&&◌, ◌==◌, nat_lt, nat_le, Option, Some, None, List, [], ◌∷◌, ◌++◌, map}
-use Rattle.std.specs.List.{filter, list_any}
+use Rattle.std.specs.Prelude.{ℕ, ◌+◌, Bool, nat_lt, nat_le, Option, Some, None, option_map, List, [], ◌∷◌, ◌++◌, map}
+use Rattle.std.specs.List.{filter, filter_map, list_any}
 use Rattle.pac_names.specs.declared.answer.Answer.{Answer}
 use Rattle.dns_message.specs.Reply.{reply_of}
 use Rattle.poll_log.specs.declared.flight.Flight.{Flight}
 use Rattle.poll_log.specs.declared.question.Question.{Question}
+use Rattle.poll_log.specs.declared.sending.Sending.{Sending}
 use Rattle.poll_log.specs.declared.terms.Terms.{Terms}
-use Rattle.poll_log.specs.Questions.{same_name}
-use Rattle.poll_log.specs.Told.{limit}
+use Rattle.poll_log.specs.Questions.{numbered_sending, same_name}
+use Rattle.poll_log.specs.Sendings.{limit, sending_at}
 
 pub record StubState : Type 0 where
   pub terms : Terms
@@ -19,9 +20,6 @@ pub record StubState : Type 0 where
 -- nothing was asked
 abbrev pub new_stub : Terms → StubState
 new_stub terms = record { terms = terms; flights = []; dead = [] }
-
-abbrev pub question_of : Flight → Question
-question_of f = f.question
 
 abbrev pub name_of : Flight → List ℕ
 name_of f = f.question.name
@@ -60,9 +58,9 @@ given datagram stub = record stub { flights = unanswered_by datagram stub.flight
 abbrev pub aged : Flight → Flight
 aged f = record { question = f.question; age = f.age + 1 }
 
--- at a multiple of the wait below the limit
-abbrev pub is_sent_again : Terms → Flight → Bool
-is_sent_again terms f = nat_lt f.age (limit terms) && (f.age % terms.wait == 0)
+-- the sending of its question that falls due at its age, where one does
+abbrev pub sending_of : Terms → Flight → Option Sending
+sending_of terms f = option_map (numbered_sending f.question) (sending_at terms f.age)
 
 -- at the limit
 abbrev pub is_over : ℕ → Flight → Bool
@@ -71,9 +69,9 @@ is_over limit f = nat_le limit f.age
 abbrev pub is_young : ℕ → Flight → Bool
 is_young limit f = nat_lt f.age limit
 
--- the questions that a beat sends again
-abbrev pub resent : StubState → List Question
-resent stub = map question_of (filter (is_sent_again stub.terms) (map aged stub.flights))
+-- what a beat sends again
+abbrev pub resent : StubState → List Sending
+resent stub = filter_map (sending_of stub.terms) (map aged stub.flights)
 
 -- the names that a beat ends
 abbrev pub dying : StubState → List (List ℕ)

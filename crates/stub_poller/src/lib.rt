@@ -1,4 +1,5 @@
-//! The questions in flight: which are sent again at a beat, which are given up, and to which a datagram is a reply.
+//! The questions in flight: which are sent again at a beat and to which server, which are given up, and to which a
+//! datagram is a reply.
 //!
 //! `Stub` knows names, datagrams and beats, and nothing of sockets, clocks or scripts. Contracts see it as the list of
 //! the questions in flight with their ages, in the order of asking, and the list of the dead names. It stands on
@@ -10,6 +11,6 @@ mod report;
 mod stub;
 
 pub use laws::driven_shows;
-pub use poll_log::Question;
+pub use poll_log::{Question, Sending};
 pub use report::BeatReport;
 pub use stub::Stub;

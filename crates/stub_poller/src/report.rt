@@ -1,34 +1,75 @@
 // What a beat brings.
-ghost use Rattle.std.specs.Prelude.{◌≡◌, ◌+◌, ◌*◌, ◌<◌, ◌≤◌, ◌++◌, map, vec_capacity, vec_len, length};
+ghost use Rattle.std.specs.Prelude.{
+  ◌≡◌,
+  ◌+◌,
+  ◌<◌,
+  ◌≤◌,
+  ◌++◌,
+  IfOk,
+  filter_map,
+  length,
+  map,
+  option_to_list,
+  vec_capacity,
+  vec_len,
+};
 ghost use Rattle.std.specs.List.{filter};
-ghost use Rattle.poll_log.specs.declared.terms.TheConstants.{MOST_TRIES, MOST_WAIT};
-ghost use Rattle.stub_poller.specs.State.{is_sent_again, is_over, question_of, name_of};
+ghost use Rattle.poll_log.specs.Sendings.{AreTerms};
+ghost use Rattle.stub_poller.specs.State.{is_over, name_of, sending_of};
 
 use pac_names::LookupName;
-use poll_log::{Flight, Question, Terms};
+use poll_log::{Flight, Sending, Terms, server_of};
+use std::alloc::Global;
+use utf16_text::Memory;
 
-/// What a beat brings, each list in the order of asking: the questions that are to be sent again, and the names that it
-/// ends.
+/// What a beat brings, each list in the order of asking: the questions that are sent again, each with its server, and
+/// the names that it ends.
 #[derive(Drop)]
 pub struct BeatReport {
-    pub resend: Vec<Question>,
+    pub resend: Vec<Sending>,
     pub dead: Vec<LookupName>,
 }
 
-/// Puts the questions that are to be sent again in the place of what the list holds.
-pub(crate) fn list_resends(list: &mut Vec<Question>, flights: &[Flight], terms: Terms)
+impl BeatReport {
+    /// A copy of what is sent again.
+    pub fn resends(&self, alloc: Global) -> Result<Vec<Sending>, Memory>
+        ensures { IfOk result (λ copies. copies.items ≡ self.now.resend.items) }
+    {
+        let mut copies = Vec::new(alloc);
+        for sending in &self.resend {
+            copies.push(sending.copy())?;
+        }
+        Ok(copies)
+    }
+}
+
+/// Puts the sendings that fall due in the place of what the list holds.
+pub(crate) fn list_resends(list: &mut Vec<Sending>, flights: &[Flight], terms: Terms)
     requires room { length flights.now ≤ vec_capacity list.old }
-    requires waits { 0 < terms.wait }
-    requires lasts { terms.wait * terms.tries ≤ MOST_WAIT * MOST_TRIES }
-    ensures listed { list.new.items ≡ map question_of (filter (is_sent_again terms) flights.now) }
+    requires terms { AreTerms terms }
+    ensures listed { list.new.items ≡ filter_map (sending_of terms) flights.now }
     ensures capacity { vec_capacity list.old ≤ vec_capacity list.new }
 {
     list.clear();
-    let limit = terms.wait * terms.tries;
     for flight in flights {
-        if flight.age < limit && flight.age % terms.wait == 0 {
-            list.push(flight.question.copy()).unwrap();
-        }
+        add_resend(list, flight, terms);
+    }
+}
+
+// Appends the sending of a question that falls due at its age, if one does.
+fn add_resend(list: &mut Vec<Sending>, flight: &Flight, terms: Terms)
+    requires room { vec_len list.old < vec_capacity list.old }
+    requires terms { AreTerms terms }
+    ensures added { list.new.items ≡ list.old.items ++ option_to_list (sending_of terms flight.now) }
+    ensures few { vec_len list.new ≤ vec_len list.old + 1 }
+    ensures capacity { vec_capacity list.old ≤ vec_capacity list.new }
+{
+    if let Some(number) = terms.sending_at(flight.age) {
+        list.push(Sending {
+            to: server_of(number),
+            question: flight.question.copy(),
+        })
+        .unwrap();
     }
 }
 

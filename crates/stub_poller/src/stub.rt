@@ -2,7 +2,6 @@
 ghost use Rattle.std.specs.Prelude.{
   ◌≡◌,
   ◌+◌,
-  ◌*◌,
   ◌<◌,
   ◌≤◌,
   ◌^◌,
@@ -68,8 +67,9 @@ impl Model for Stub {
 impl Stub {
     ghost use Rattle.stub_poller.specs.Lending.{EndsBeaten};
 
-    /// A stub that sends each question `tries` times, `wait` beats apart, and gives it up `wait` beats behind the last
-    /// sending. It takes no memory.
+    /// A stub that sends each question `tries` times, to the first server and the second one in turn. The second time
+    /// comes `wait` beats after the first, and from each time to the next it is twice as long as before. A question is
+    /// given up when one time more would come. It takes no memory.
     pub fn new(alloc: Global, wait: u32, tries: u32) -> Stub
         requires waits { 0 < wait }
         requires wait { wait ≤ MOST_WAIT }
@@ -88,7 +88,7 @@ impl Stub {
         }
     }
 
-    /// Takes the question for a name into flight, and gives it, to be sent now.
+    /// Takes the question for a name into flight, and gives it, to be sent to the first server now.
     pub fn ask(&mut self, _alloc: Global, name: LookupName, id: u16) -> Result<Question, Memory>
         ensures question { IfOk result (λ q. q ≡ record { id = id; name = name }) }
         ensures asked { OnOk result (self.new ≡ asking (record { id = id; name = name }) self.old) }
@@ -121,7 +121,7 @@ impl Stub {
         ensures resend { result.now.resend.items ≡ resent self.old }
         ensures dead { result.now.dead.items ≡ dying self.old }
     {
-        let limit = self.terms.wait * self.terms.tries;
+        let limit = self.terms.limit();
         grow_older(&mut self.flights);
         list_resends(&mut self.report.resend, &self.flights, self.terms);
         list_deaths(&mut self.report.dead, &self.flights, limit);

@@ -5,6 +5,5 @@ pub mod Counting
 pub mod Sound
 pub mod Running
 pub mod Tests
-pub mod Outputs
 pub mod AllEnds
 pub mod Answered

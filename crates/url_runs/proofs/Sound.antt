@@ -14,10 +14,10 @@ use Rattle.url_runs.specs.Named.{jobs_named}
 use Rattle.pac_names.specs.declared.limits.TheConstants.{MOST_NAMES}
 
 pub sound : (script : ScriptRuns) → ((entry : Entry) → AsksLookupNames (script entry)) → TasksAreSound script
-sound script asks asking entries terms =
+sound script asks upstream entries terms =
     record {
       terms = record { waits = terms.waits; tried = terms.tried };
       named = All-map jobs.AsksLookupNames (url_job script) entries (λ k d low. jobs_named (script (get_or entries k d)) (asks (get_or entries k d)));
       restartable = All-map (IsRestartable MOST_NAMES) (url_job script) entries (λ k d low. run_is_job (script (get_or entries k d)));
-      unsent_runs = runs_with_sent asking.terms (map (url_job script) entries);
+      unsent_runs = runs_with_sent upstream.terms (map (url_job script) entries);
     }

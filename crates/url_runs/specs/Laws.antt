@@ -7,13 +7,13 @@ use Rattle.js_evaluation.specs.Evaluation.{Entry}
 use Rattle.pac_ports.specs.declared.link.Move.{Move}
 use Rattle.pac_plan.specs.declared.status.Status.TheVariants as status
 use Rattle.poll_log.specs.declared.terms.Terms.{Terms}
+use Rattle.poll_log.specs.Sendings.{AreTerms}
 use Rattle.poll_log.specs.Turns.{Turns, turns_of}
 use Rattle.poll_log.specs.Told.{told}
 use Rattle.poll_log.specs.Jobs.{IsPolled, runs_of}
 use Rattle.poll_log.specs.Laws.{IsAllTold}
 use Rattle.poll_loop.specs.Task.{IsSound}
-use Rattle.poll_loop.specs.declared.looping.Asking.{Asking}
-use Rattle.stub_poller.specs.Ready.{AreTerms}
+use Rattle.poll_loop.specs.declared.looping.Upstream.{Upstream}
 use Rattle.session_log.specs.Sessions.{Holds}
 use Rattle.session_core.specs.Resolved.{talk_of}
 use Rattle.url_runs.specs.Runs.{ScriptRuns}
@@ -36,7 +36,7 @@ EachMapIsTaken = (terms : Terms) (turns : Turns) (all : AnswerMap) → Holds all
 -- What is polled for is sound: what waits lacks lookup names alone, and obeys the extension law with at most 32 names.
 abbrev pub TasksAreSound : ScriptRuns → Type 0
 TasksAreSound script =
-    (asking : Asking) (entries : List Entry) → AreTerms asking.terms → IsSound (talk_of asking (map (url_job script) entries)).task
+    (upstream : Upstream) (entries : List Entry) → AreTerms upstream.terms → IsSound (talk_of upstream (map (url_job script) entries)).task
 
 -- Where the log is polled and each name that was sent is told, no URL is unanswered.
 abbrev pub ToldAreAnswered : Type 0

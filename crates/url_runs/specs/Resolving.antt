@@ -1,20 +1,19 @@
 -- A script for URLs, over a link: what is reported when each of them has ended, by the log.
 use Rattle.std.specs.Prelude.{List, Option, Some, None, map}
 use Rattle.js_host.specs.Answers.{AnswerMap, Name}
-use Rattle.batch_text.specs.Batch.{BatchEntry}
 use Rattle.js_evaluation.specs.Evaluation.{Entry, Outcome}
 use Rattle.poll_log.specs.declared.terms.Terms.{Terms}
 use Rattle.poll_log.specs.Turns.{Turns, turns_of}
 use Rattle.poll_log.specs.Told.{told}
 use Rattle.poll_log.specs.Jobs.{Job, runs_of}
 use Rattle.poll_loop.specs.Task.{Talk}
-use Rattle.poll_loop.specs.declared.looping.Asking.{Asking}
+use Rattle.poll_loop.specs.declared.looping.Upstream.{Upstream}
 use Rattle.pac_plan.specs.Plan.{Plan, talk}
 use Rattle.report_text.specs.Report.{End, UrlEnd, done, unanswered}
 use Rattle.session_log.specs.Asked.{job_of}
 use Rattle.session_log.specs.Sessions.{Holds}
 use Rattle.session_core.specs.Resolved.{talk_of}
-use Rattle.url_runs.specs.Runs.{ScriptRuns, outcome_of}
+use Rattle.url_runs.specs.Runs.{ScriptRuns, Work, outcome_of}
 use Rattle.url_runs.specs.Reports.{reported}
 
 -- For each log a map of all names that agrees with the first accepted replies, and may hold anything for other names.
@@ -43,11 +42,11 @@ all_ended program complete terms turns entries =
     map (ended program (complete.answers terms turns) terms turns) entries
 
 -- what is polled for
-abbrev pub urls_talk : Asking → ScriptRuns → List Entry → Talk
-urls_talk asking program entries = talk_of asking (map (url_job program) entries)
+abbrev pub urls_talk : Upstream → ScriptRuns → List Entry → Talk
+urls_talk upstream program entries = talk_of upstream (map (url_job program) entries)
 
--- polls for all of them, and reports by the log of the batch, for whose URLs these runs are
-abbrev pub resolve_plan : Completion → Asking → ScriptRuns → List BatchEntry → List Entry → Plan Talk
-resolve_plan complete asking program batch entries =
-    talk (urls_talk asking program entries)
-    (λ log. reported batch (all_ended program complete asking.terms (turns_of log) entries))
+-- polls for all URLs of the batch, and reports by the log
+abbrev pub resolve_plan : Completion → Upstream → Work → Plan Talk
+resolve_plan complete upstream work =
+    talk (urls_talk upstream work.script work.entries)
+    (λ log. reported work.batch (all_ended work.script complete upstream.terms (turns_of log) work.entries))

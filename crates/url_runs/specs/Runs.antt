@@ -1,5 +1,6 @@
 -- A script that is run for URLs.
-use Rattle.std.specs.Prelude.{◌≡◌, ℕ, List}
+use Rattle.std.specs.Prelude.{◌≡◌, ℕ, List, map}
+use Rattle.batch_text.specs.Batch.{BatchEntry, entry_seen}
 use Rattle.js_tree.specs.Tree.{statements_of}
 use Rattle.js_host.specs.Answers.{AnswerMap}
 use Rattle.run_trees.specs.RunTree.{RunTree}
@@ -12,6 +13,7 @@ use Rattle.js_interp.specs.declared.entry.Entry as code
 use Rattle.js_interp.specs.declared.outcome.Outcome.{Outcome}
 use Rattle.js_interp.specs.Answers.{entry_of, seen_outcome}
 use Rattle.url_runs.specs.declared.url_run.UrlRun.{UrlRun}
+use Rattle.url_runs.specs.declared.work.Work as declared
 
 -- a script as its runs: for each entry a tree of what is asked
 abbrev pub ScriptRuns : Type 0
@@ -25,6 +27,12 @@ program_runs program entry = run_tree (statements_of program.body) (functions_of
 abbrev pub outcome_of : ScriptRuns → AnswerMap → Entry → def.Outcome
 outcome_of script answers entry = def.outcome_of (script entry) answers
 
+-- a script, a batch of URLs, and what the runs for its URLs are for, in their order
+pub record Work : Type 0 where
+  pub script : ScriptRuns
+  pub batch : List BatchEntry
+  pub entries : List Entry
+
 -- ---- as the code has it
 
 -- the script, and what it is run for
@@ -33,6 +41,9 @@ seen_run run = (program_runs run.program.now, entry_of run.entry)
 
 abbrev pub seen_for : ScriptRuns → code.Entry → ScriptRuns × Entry
 seen_for program entry = (program, entry_of entry)
+
+abbrev pub seen_work : declared.Work → Work
+seen_work work = record { script = program_runs work.program; batch = map entry_seen work.batch; entries = map entry_of work.entries.items }
 
 abbrev pub tree_of : UrlRun → RunTree RunEnd
 tree_of run = (seen_run run).0 (seen_run run).1

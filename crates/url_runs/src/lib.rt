@@ -10,6 +10,7 @@ mod mapping;
 mod reports;
 mod resolving;
 mod url_run;
+mod work;
 
 pub use laws::{
     completions_are_there, each_map_is_taken, runs_are_few, tasks_are_sound, told_are_answered,
@@ -17,3 +18,4 @@ pub use laws::{
 pub use mapping::map_urls;
 pub use resolving::{end_urls, resolve_urls};
 pub use url_run::UrlRun;
+pub use work::Work;

@@ -5,39 +5,44 @@ ghost use Rattle.pac_plan.specs.Plan.{Outside};
 ghost use Rattle.pac_plan.specs.Follows.{Follows};
 ghost use Rattle.pac_plan.specs.OutputView.{made};
 ghost use Rattle.pac_ask.specs.Talks.{talks};
-ghost use Rattle.batch_text.specs.Batch.{entry_seen};
 ghost use Rattle.report_text.specs.Report.{seen_end};
-ghost use Rattle.url_runs.specs.Runs.{outcome_of, program_runs};
+ghost use Rattle.url_runs.specs.Runs.{outcome_of, program_runs, seen_work};
 ghost use Rattle.url_runs.specs.Mapping as plan;
 
+use crate::Work;
 use crate::reports::reported;
 use answer_table::AnswerTable;
-use batch_text::Batch;
 use js_interp::{Entry, Outcome, RunAnswer, run};
 use js_scope::Program;
 use pac_plan::Output;
 use report_text::{End, UrlEnd};
 use std::alloc::Global;
+use std::mem;
 use std::sync::ledger::Ledger;
 use step_counter::Steps;
 use tracing_host::MapHost;
 use utf16_text::Memory;
 
-/// Runs a script once for each URL of a batch, in their order, and reports. The entries are what the runs are for. A
-/// name that the answers don't hold has no address.
+/// Runs a script once for each URL of a batch, in their order, and reports. A name that the answers don't hold has no
+/// address. The memory of the script's tree is left to the system.
 pub fn map_urls<L: Ledger>(
     alloc: Global,
-    program: &Program,
-    batch: &Batch,
-    entries: Vec<Entry>,
+    work: Work,
     answers: &AnswerTable,
     runs: &mut Steps<L>,
 ) -> Result<Output, Memory>
-    ensures { (o : Outside) → Follows talks (plan.map_plan (program_runs program.now) answers.now (map entry_seen batch.now) (map entry_of entries.items))
+    ensures { (o : Outside) → Follows talks (plan.map_plan answers.now (seen_work work))
         (record o { runs = runs.old }) (record o { runs = runs.new }) (made result) }
 {
-    let ends = run_each(alloc, program, entries, answers, runs)?;
-    reported(alloc, batch, &ends)
+    let Work {
+        program,
+        batch,
+        entries,
+    } = work;
+    let ends = run_each(alloc, &program, entries, answers, runs)?;
+    // The process ends with its command, so the tree of a script isn't taken apart node by node.
+    mem::forget(program);
+    reported(alloc, &batch, &ends)
 }
 
 /// Runs a script once for each URL.

@@ -1,8 +1,8 @@
 // A script and a URL that it is run for.
 use js_host::Host;
-use js_interp::{Entry, Outcome, RunAnswer as Ran, run};
+use js_interp::{Entry, Outcome, RunAnswer, run};
 use js_scope::Program;
-use session_core::{Run, RunAnswer};
+use session_core::{Attempt, Run};
 use std::alloc::Global;
 use std::sync::ledger::Ledger;
 use step_counter::Steps;
@@ -34,11 +34,11 @@ impl<'p> Run for UrlRun<'p> {
         alloc: Global,
         host: &mut H,
         runs: &mut Steps<L>,
-    ) -> RunAnswer<Outcome> {
+    ) -> Attempt<Outcome> {
         match run(alloc, self.program, &self.entry, host, runs) {
-            Ran::Done(outcome) => RunAnswer::Done(outcome),
-            Ran::Missing(name) => RunAnswer::Missing(name),
-            Ran::Memory => RunAnswer::Memory,
+            RunAnswer::Done(outcome) => Attempt::Done(outcome),
+            RunAnswer::Missing(name) => Attempt::Missing(name),
+            RunAnswer::Memory => Attempt::Memory,
         }
     }
 }

@@ -5,4 +5,4 @@ use Rattle.pac_command.proofs.inputs.answers_in.Goals as goal
 
 -- for want of memory
 pub returns-in-Err-Memory : goal.returns-in-Err-Memory
-returns-in-Err-Memory c = λ o next. gives_up talks (names_then c.args.bytes.now next) o
+returns-in-Err-Memory c = λ files o next. gives_up talks (names_then c.args.bytes.now next) _

@@ -2,9 +2,9 @@ use Rattle.std.proofs.Common.{◌≡◌, ◌<◌, ap, refl, sym, ◌∙◌, subs
 use Rattle.std.proofs.lemmas.Bool.Decides.{nat_tests}
 use Rattle.std.proofs.lemmas.List.{length-map}
 use Rattle.pac_ports.specs.Link.{with_moves, with_open}
-use Rattle.pac_ports.specs.declared.link.Move.TheVariants as move
-use Rattle.poll_log.specs.Questions.{octets_of}
-use Rattle.poll_log.specs.Told.{limit}
+use Rattle.poll_loop.specs.Events.{sent_move}
+use Rattle.poll_log.specs.Questions.{outgoing_of}
+use Rattle.poll_log.specs.Sendings.{limit}
 use Rattle.poll_log.specs.Turns.{turns_of}
 use Rattle.poll_loop.specs.Sending.{SendFails}
 use Rattle.poll_loop.proofs.Turns.{ended_by_bound, ended_if, ended_whole, faulted_begin, none_sent, nothing_begin, reached_begin, stopped, waits_if_not}
@@ -16,19 +16,19 @@ returns-then-is_empty-clause-polled g c talk old server terms link b =
 
 pub returns-in_default-clause-polled : goal.returns-in_default-clause-polled
 returns-in_default-clause-polled g c talk old server terms link b =
-    let opened : with_open c.args.asking.server (g.N.Link.state c.args.link.now) ≡ with_open talk.server old.link = ap (λ s. with_open s (g.N.Link.state c.args.link.now)) (sym server) ∙ ap (with_open talk.server) (sym link) in
+    let opened : with_open c.args.upstream.servers (g.N.Link.state c.args.link.now) ≡ with_open talk.servers old.link = ap (λ s. with_open s (g.N.Link.state c.args.link.now)) (sym server) ∙ ap (with_open talk.servers) (sym link) in
     let fails = c.in_default.ensures in
-    faulted_begin talk _ old _ _ _ b fails.0 _ (subst (λ s. SendFails s (map octets_of c.args.first.now) fails.0 (g.N.Link.state c.open.new.link)) opened fails.1)
+    faulted_begin talk _ old _ _ _ b fails.0 _ (subst (λ s. SendFails s (map outgoing_of c.args.first.now) fails.0 (g.N.Link.state c.open.new.link)) opened fails.1)
 
 pub loop-turn-init : goal.loop-turn-init
 loop-turn-init g c =
     record {
       reached =
           λ talk old server terms link b.
-          let opened : with_open c.args.asking.server (g.N.Link.state c.args.link.now) ≡ with_open talk.server old.link = ap (λ s. with_open s (g.N.Link.state c.args.link.now)) (sym server) ∙ ap (with_open talk.server) (sym link) in
-          let all : length (map octets_of c.args.first.now) ≡ length c.args.first.now = length-map c.args.first.now octets_of in
-          let some : 0 < length (map octets_of c.args.first.now) = grind (arith, nat_tests) in
-          reached_begin talk _ old _ _ _ b _ some (c.in-Ok.ensures ∙ ap (λ s. with_moves (map move.Sent (map octets_of c.args.first.now)) s) opened);
+          let opened : with_open c.args.upstream.servers (g.N.Link.state c.args.link.now) ≡ with_open talk.servers old.link = ap (λ s. with_open s (g.N.Link.state c.args.link.now)) (sym server) ∙ ap (with_open talk.servers) (sym link) in
+          let all : length (map outgoing_of c.args.first.now) ≡ length c.args.first.now = length-map c.args.first.now outgoing_of in
+          let some : 0 < length (map outgoing_of c.args.first.now) = grind (arith, nat_tests) in
+          reached_begin talk _ old _ _ _ b _ some (c.in-Ok.ensures ∙ ap (λ s. with_moves (map sent_move (map outgoing_of c.args.first.now)) s) opened);
       kept = refl;
     }
 
@@ -40,7 +40,7 @@ returns-then-ended-clause-polled g c talk old server terms link b =
 pub returns-in-Err-clause-polled : goal.returns-in-Err-clause-polled
 returns-in-Err-clause-polled g c talk old server terms link b =
     let r = c.loop-turn.invariant.reached talk old server terms link b in
-    stopped talk (g.P.Poller.stands c.turn.new.poller talk.task) old c.in-Err.stop _ _ _ _
+    stopped talk (g.P.Poller.stands c.turn.new.poller talk.task) old c.in-Err.error _ _ _ _
     (c.in-Err.ensures.turned talk old c.loop-turn._turn r (waits_if_not _ _ (c.ended.ensures talk.task (turns_of r.moves) r.stands) c.if-ended.false))
 
 pub loop-turn-preserved : goal.loop-turn-preserved
@@ -56,5 +56,5 @@ loop-turn-preserved g c =
 pub returns-clause-polled : goal.returns-clause-polled
 returns-clause-polled g c talk old server terms link b =
     let r = c.loop-turn.invariant.reached talk old server terms link b in
-    let same : limit talk.task.terms ≡ limit c.args.asking.terms = ap limit terms in
+    let same : limit talk.task.terms ≡ limit c.args.upstream.terms = ap limit terms in
     ended_by_bound talk _ old _ _ _ _ r (omega arith)

@@ -1,6 +1,6 @@
 use Rattle.std.proofs.Common.{◌≡◌, map}
 use Rattle.pac_plan.specs.Plan.{Outside}
-use Rattle.poll_log.specs.Questions.{octets_of}
+use Rattle.poll_log.specs.Questions.{outgoing_of}
 use Rattle.poll_loop.specs.Steps.{Began}
 use Rattle.poll_loop.specs.Task.{Talk}
 use Rattle.poll_loop.specs.Turning.{Reached}
@@ -11,8 +11,8 @@ abbrev pub invariant-loop-turn : goal.invariant-loop-turn
 invariant-loop-turn g l =
     record {
       reached :
-          (talk : Talk) (old : Outside) → talk.server ≡ l.fn.asking.server → talk.task.terms ≡ l.fn.asking.terms → old.link ≡ g.N.Link.state l.fn.link
-          → Began (g.P.Poller.stands l.fn.poller talk.task) talk.task (map octets_of l.fn.first) old (g.D.Dice.told l.fn.dice) l.fn.runs
+          (talk : Talk) (old : Outside) → talk.servers ≡ l.fn.upstream.servers → talk.task.terms ≡ l.fn.upstream.terms → old.link ≡ g.N.Link.state l.fn.link
+          → Began (g.P.Poller.stands l.fn.poller talk.task) talk.task (map outgoing_of l.fn.first) old (g.D.Dice.told l.fn.dice) l.fn.runs
           → Reached talk (g.P.Poller.stands l.poller talk.task) old (g.N.Link.state l.link) (g.D.Dice.told l.dice) l.runs l._turn;
       kept : g.P.Poller.kept l.poller ≡ g.P.Poller.kept l.fn.poller;
     }

@@ -6,12 +6,12 @@ use Rattle.session_core.proofs.beginning.begin.Goals as goal
 pub loop-run-init : goal.loop-run-init
 loop-run-init g c =
     rw (c.new-sessions.ensures.items, c.new-asked.ensures.items)
-    record { moment = begins_none _ _ _ _ _; ran = omega arith; left = let all = ap length c.into_iter-run-iterator.ensures.into_iter_gives.0 in omega arith }
+    record { moment = begins_none _ _ _ _; ran = omega arith; left = let all = ap length c.into_iter-run-iterator.ensures.into_iter_gives.0 in omega arith }
 
 pub loop-run-preserved : goal.loop-run-preserved
 loop-run-preserved g c =
     record {
-      moment = begins_more _ _ _ _ _ _ _ _ _ _ _ _ _ _ _ _ _ c.loop-run.invariant.moment c.in_ok-settled.ensures.ok refl refl refl c.in_ok-push.ensures.items c.in_ok-push_asked.ensures;
+      moment = begins_more _ _ _ _ _ _ _ _ _ _ _ _ _ _ _ _ c.loop-run.invariant.moment c.in_ok-settled.ensures.ok refl refl refl c.in_ok-push.ensures.items c.in_ok-push_asked.ensures;
       ran = let more = length-append c.loop-run.yielded (c.in-Some.run' ∷ []) in omega arith;
       left =
           let more = length-append c.loop-run.yielded (c.in-Some.run' ∷ []) in

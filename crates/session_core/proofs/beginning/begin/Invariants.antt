@@ -5,7 +5,7 @@ use Rattle.session_core.proofs.beginning.begin.Given as goal
 abbrev pub invariant-loop-run : goal.invariant-loop-run
 invariant-loop-run g l =
     record {
-      moment : Begins g.R.Run.gives g.R.Run.tree l.table l.yielded l.fn.stub l.stub (g.D.Dice.told l.fn.dice) (g.D.Dice.told l.dice) l.sessions.items l.asked.items;
+      moment : Begins g.R.Run.gives g.R.Run.tree l.yielded l.fn.lookups l.lookups (g.D.Dice.told l.fn.dice) (g.D.Dice.told l.dice) l.sessions.items l.asked.items;
       ran : l.runs ≡ l.fn.runs + length l.yielded;
       left : length l.yielded + length l.run-iterator.rest.items ≡ length l.fn.all.items;
     }

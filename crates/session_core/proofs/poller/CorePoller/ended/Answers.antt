@@ -7,4 +7,4 @@ use Rattle.session_core.proofs.poller.CorePoller.ended.Goals as goal
 
 pub returns : goal.returns
 returns g c task turns s =
-    ap not (c.some_wait.ensures ∙ ap (list_any (λ (x : Session g.row.R.Denot g.row.R-Outcome.Denot). is_waiting x.state)) c.deref.ensures.value ∙ waits_is _ _ _ _ _ _ task turns s.stands)
+    ap not (c.some_wait.ensures ∙ ap (list_any (λ (x : Session g.row.R.Denot g.row.R-Outcome.Denot). is_waiting x.progress)) c.deref.ensures.value ∙ waits_is _ _ _ _ task turns s.stands)
