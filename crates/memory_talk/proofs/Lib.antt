@@ -16,3 +16,4 @@ pub mod Replied
 pub mod Room
 pub mod Front
 pub mod There
+pub mod Costs

@@ -100,11 +100,11 @@ pub record IsPrompt (answers : AnswerMap) (t : Terms) (h : Turns) : Type 0 where
   pub answered : AllByRecursion (IsTold answers t h) done
   pub waiting : AllByRecursion (IsUntold t h) due
 
--- what is told is told to each of these names
-pub told_among : (answers : AnswerMap) (t : Terms) (h : Turns) (n : List ℕ) (qs : List Question) → AllByRecursion (IsTold answers t h) qs → has_name n qs ≡ true → is_some (told t h n) ≡ true
+-- each of these names is told the map's answer
+pub told_among : (answers : AnswerMap) (t : Terms) (h : Turns) (n : List ℕ) (qs : List Question) → AllByRecursion (IsTold answers t h) qs → has_name n qs ≡ true → told t h n ≡ Some (answer_in answers n)
 told_among answers t h n [] all k = true_false (sym k)
 told_among answers t h n (q ∷ qs) all k = elim (or_cases (same_name q.name n) (has_name n qs) k) [
-  | inl same ↦ ap (λ (m : List ℕ). is_some (told t h m)) (sym (same_is q.name n same)) ∙ ap is_some all.0
+  | inl same ↦ subst (λ (m : List ℕ). told t h m ≡ Some (answer_in answers m)) (same_is q.name n same) all.0
   | inr later ↦ told_among answers t h n qs all.1 later
 ]
 
@@ -120,7 +120,7 @@ next_of n (q ∷ qs) k = record { question = q; rest = qs; parts = refl }
 
 pub next_due : (answers : AnswerMap) (t : Terms) (h : Turns) (p : IsPrompt answers t h) → IsAwaited t h → IsNext p.due
 next_due answers t h p a = elim (or_cases (has_name a.name p.done) (has_name a.name p.due) (sym (has_name-append a.name p.done p.due) ∙ ap (has_name a.name) (sym p.names) ∙ a.sent)) [
-  | inl front ↦ true_false (sym (told_among answers t h a.name p.done p.answered front) ∙ ap is_some a.untold)
+  | inl front ↦ true_false (sym (ap is_some (told_among answers t h a.name p.done p.answered front)) ∙ ap is_some a.untold)
   | inr later ↦ next_of a.name p.due later
 ]
 

@@ -1,6 +1,6 @@
 -- Where names are few each question of a log has its reply.
 use Rattle.std.proofs.Common.{◌≡◌, ℕ, ◌+◌, ◌*◌, ◌<◌, ◌≤◌, true, false, not, ◌||◌, List, [], ◌∷◌, ◌++◌, map, take, length, Option, Some, None, refl, sym, ◌∙◌, ap, subst, arith, append_assoc}
-use Rattle.std.specs.Prelude.{slice_get}
+use Rattle.std.specs.Prelude.{is_some, slice_get}
 use Rattle.std.specs.List.{AllByRecursion, list_any}
 use Rattle.std.proofs.lemmas.Bool.{or_parts}
 use Rattle.std.proofs.lemmas.List.{append-nil, length-append, length_push, map_push}
@@ -200,7 +200,7 @@ module _ (most : ℕ) (answers : AnswerMap) (small : AreAddresses answers) (t : 
         record {
           replies = p.came ∙ ap (map (reply_event answers)) (sym (p.once ∙ all_done));
           once = p.once ∙ sym p.names;
-          all_told = λ n sent. told_among answers t h n p.done p.answered (ap (has_name n) (sym (p.names ∙ all_done)) ∙ sent);
+          all_told = λ n sent. ap is_some (told_among answers t h n p.done p.answered (ap (has_name n) (sym (p.names ∙ all_done)) ∙ sent));
           finished = All-from_recursion (IsFinished t h) jobs (all_finished jobs ended);
         }
 

@@ -94,7 +94,7 @@ unfolding told
 told_sent t (Begin sent) more = refl
 told_sent t (Then h e sent) more = refl
 
-waits_sent : (t : Terms) (jobs : List Job) (h : Turns) (more : List Outgoing) → WaitsBefore t jobs h → WaitsBefore t jobs (with_sent h more)
+pub waits_sent : (t : Terms) (jobs : List Job) (h : Turns) (more : List Outgoing) → WaitsBefore t jobs h → WaitsBefore t jobs (with_sent h more)
 waits_sent t jobs (Begin sent) more w = w
 waits_sent t jobs (Then h e sent) more w = w
 

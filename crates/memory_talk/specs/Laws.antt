@@ -21,7 +21,7 @@ use Rattle.poll_log.specs.Jobs.{IsCut, IsFinished, IsPolled, Job, some_wait}
 use Rattle.poll_log.specs.Laws.{IsAllTold, IsRestartable}
 use Rattle.poll_loop.specs.Task.{IsSound, Task}
 use Rattle.session_log.specs.Asked.{job_of}
-use Rattle.session_log.specs.Sessions.{IsWhole}
+use Rattle.session_log.specs.Sessions.{IsWhole, all_runs}
 use Rattle.pac_generate.specs.Answered.{IsAnswered, reply_from}
 use Rattle.pac_generate.specs.Names.{site_map}
 use Rattle.pac_generate.specs.declared.limits.TheConstants.{MOST_MOVES, MOST_QUESTIONS}
@@ -125,3 +125,11 @@ LinkHasRoom =
     (most : ℕ) (answers : AnswerMap) (terms : Terms) (jobs : List Job) (log : List Move) → AreAddresses answers → AskFew most terms jobs
     → IsCut terms jobs (turns_of log) → IsAnswered answers (turns_of log) → some_wait terms jobs (turns_of log) ≡ true
     → length log < MOST_MOVES
+
+-- A log that is cut short costs no more runs than a whole one, where both are answered from the map and jobs ask few names,
+-- whatever numbers their questions carry.
+abbrev pub CutCostsNoMore : Type 0
+CutCostsNoMore =
+    (most : ℕ) (answers : AnswerMap) (terms : Terms) (jobs : List Job) (cut log : Turns) → AreAddresses answers → AskFew most terms jobs
+    → IsCut terms jobs cut → IsAnswered answers cut → IsPolled terms jobs log → IsAnswered answers log
+    → all_runs terms jobs cut ≤ all_runs terms jobs log

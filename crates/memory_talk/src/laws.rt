@@ -1,6 +1,7 @@
 // The laws of logs that are answered from a map, each once.
 ghost use Rattle.memory_talk.specs.Laws.{
   AgreesWithTheMap,
+  CutCostsNoMore,
   CutIsFront,
   LinkHasRoom,
   LogIsThere,
@@ -55,4 +56,9 @@ pub fn sound_jobs_ask_few()
 /// Where jobs ask few names, the link has room for one move more while some job waits.
 pub fn link_has_room()
     ensures { LinkHasRoom }
+{}
+
+/// A log that is cut short costs no more runs than a whole one.
+pub fn cut_costs_no_more()
+    ensures { CutCostsNoMore }
 {}

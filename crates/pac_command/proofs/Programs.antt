@@ -28,6 +28,7 @@ memory_first (in_memory program) o = at_first answering program o
 -- what was followed and written was served
 pub serves : (doing : Doing) (old new : Outside) (out out' : SinkState) (given : Status) (made : Option Output)
     → FollowsDoing doing old new made → Gives made given out out' → Serves doing old new out out' given
+unfolding Serves
 serves (over_link program) old new out out' given made followed gave = served.serves talks program old new out out' given made followed gave
 serves (in_memory program) old new out out' given made followed gave = served.serves answering program old new out out' given made followed gave
 

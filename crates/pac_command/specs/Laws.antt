@@ -1,14 +1,16 @@
 -- What holds of the commands beside their plans.
-use Rattle.std.specs.Prelude.{◌≡◌, ◌≤◌, ℕ, List, Ok, Some}
+use Rattle.std.specs.Prelude.{◌≡◌, ◌+◌, ◌≤◌, ℕ, List, Ok, Some}
 use Rattle.batch_text.specs.declared.batch.TheConstants.{MOST_URLS}
 use Rattle.js_tree.specs.Tree.{StatementTree}
 use Rattle.js_grammar.specs.Statements.{script_of_text}
 use Rattle.js_evaluation.specs.Evaluation.{run_by_names}
 use Rattle.memory_talk.specs.Laws.{AreReplied, IsLogOf, OneLog}
+use Rattle.memory_talk.specs.Talks.{MemoryTalk, Talked}
 use Rattle.pac_ask.specs.Laws.{AsksAreSound, ToldIsAnswered}
 use Rattle.pac_generate.specs.Generated as generated
 use Rattle.pac_words.specs.Commands.{Asked, Asking, asking, command_of, resolving}
 use Rattle.pac_words.specs.Rules.{Text}
+use Rattle.pac_plan.specs.Plan.{End, Outside}
 use Rattle.pac_ports.specs.declared.link.Move.{Move}
 use Rattle.poll_log.specs.Sendings.{AreTerms}
 use Rattle.poll_log.specs.Turns.{turns_of}
@@ -53,11 +55,19 @@ AllAreReplied seed sites script log =
     let task = generate_task seed sites script in
     AreReplied (generated.generated seed sites).map task.terms task.jobs (turns_of log)
 
--- For each number of sites that is allowed there is that log, and in each that is one all are replied.
+-- its talk: that task, answered from the generated map
+abbrev pub generate_talk : ℕ → ℕ → List StatementTree → MemoryTalk
+generate_talk seed sites script = record { answers = (generated.generated seed sites).map; task = generate_task seed sites script }
+
+-- For each number of sites that is allowed there is that log, and in each that is one all are replied. However the talk ends,
+-- also where memory ran out, no more runs were counted than that log costs.
 pub record GenerateHasItsLog : Type 0 where
   pub is_there : (seed sites : ℕ) (script : List StatementTree) → (log : List Move) × IsGeneratedLog seed sites script log
   pub replied : (seed sites : ℕ) (script : List StatementTree) (log : List Move) → sites ≤ MOST_URLS
       → IsGeneratedLog seed sites script log → AllAreReplied seed sites script log
+  pub runs : (seed sites : ℕ) (script : List StatementTree) (log : List Move) → sites ≤ MOST_URLS → IsGeneratedLog seed sites script log
+      → (old : Outside) (end : End) (part : List Move) (new : Outside) → Talked (generate_talk seed sites script) old end part new
+      → new.runs ≤ old.runs + (generate_task seed sites script).runs (turns_of log)
 
 pub record CommandsKeepLaws : Type 0 where
   -- for each log there is a map of all names that agrees with it
@@ -73,7 +83,8 @@ pub record CommandsKeepLaws : Type 0 where
   -- where each name that was sent is told, nothing is unanswered
   pub urls_are_answered : ToldAreAnswered
   pub name_is_answered : ToldIsAnswered
-  -- of `generate`: its script is read, its map and jobs have at most one whole log, and that is there, without a tick
+  -- of `generate`: its script is read, its map and jobs have at most one whole log, and that is there, without a tick; no more
+  -- runs are counted than that costs
   pub script_is_read : ScriptIsRead
   pub one_log : OneLog
   pub its_log : GenerateHasItsLog

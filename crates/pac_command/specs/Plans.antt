@@ -31,7 +31,7 @@ abbrev pub FollowsDoing : Doing → Outside → Outside → Option Output → Ty
 FollowsDoing (over_link program) old new made = plans.FollowsProgram talks program old new made
 FollowsDoing (in_memory program) old new made = plans.FollowsProgram answering program old new made
 
-abbrev pub Serves : Doing → Outside → Outside → SinkState → SinkState → Status → Type 0
+unfoldable pub Serves : Doing → Outside → Outside → SinkState → SinkState → Status → Type 0
 Serves (over_link program) old new out out' given = served.Serves talks program old new out out' given
 Serves (in_memory program) old new out out' given = served.Serves answering program old new out out' given
 

@@ -52,7 +52,8 @@ pub fn pac<F: Files, K: Sink, N: Link, C: Clock, D: Dice, L: Ledger>(
         (K.state out.old) (K.state out.new) result }
     // For each log there is a map that agrees with it; what is polled for is sound, so where memory ran out the log is cut
     // short; nothing is unanswered where each name is told; no URL costs more runs than the distinct names of its whole
-    // run, plus one; what `generate` reads and logs is one script and one log; and the words' wait and tries are in range.
+    // run, plus one; what `generate` reads and logs is one script and one log, and it counts no more runs than that log
+    // costs; and the words' wait and tries are in range.
     ensures laws { CommandsKeepLaws }
 {
     let Ok(command) = read_words(alloc, words) else {
