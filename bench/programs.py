@@ -1,4 +1,5 @@
-"""The two programs that a part is measured by: crates/pac_bench, and the same work in plain Rust."""
+"""The programs that a part is measured by: crates/pac_bench or one of the programs of cases, and the same work in plain
+Rust."""
 import os
 import subprocess
 import sys
@@ -6,13 +7,19 @@ import sys
 TOP = os.path.dirname(os.path.dirname(os.path.abspath(__file__)))
 
 
-def bench(part, *words):
-    """Proves and builds pac_bench by a small run of a part; gives the words that its runs begin with."""
-    crate = os.path.join(TOP, "crates", "pac_bench")
-    run = subprocess.run(["rt", "run", "--", part, *words], cwd=crate, capture_output=True, text=True)
+def built(crate, *words):
+    """Proves and builds the program of a crate by a small run with these words and no input; gives its path."""
+    folder = os.path.join(TOP, "crates", crate)
+    words = ["rt", "run", "--", *words]
+    run = subprocess.run(words, cwd=folder, stdin=subprocess.DEVNULL, capture_output=True, text=True)
     if run.returncode != 0:
         sys.exit(run.stdout + run.stderr)
-    return [os.path.join(crate, "out", "pac_bench"), part]
+    return os.path.join(folder, "out", crate)
+
+
+def bench(part, *words):
+    """The words that the runs of a part of pac_bench begin with."""
+    return [built("pac_bench", part, *words), part]
 
 
 def plain(part, folder):

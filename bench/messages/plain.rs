@@ -1,4 +1,5 @@
-// The readings of `crates/pac_bench/src/messages.rt` in a few lines of plain Rust: the same checks, the same answers.
+// The readings of `crates/pac_bench/src/messages.rt` and `crates/stream_cases/src/streams.rt` in a few lines of plain
+// Rust: the same checks, the same answers.
 
 fn u16_at(m: &[u8], at: usize) -> Option<usize> {
     Some(usize::from(*m.get(at)?) * 256 + usize::from(*m.get(at + 1)?))
@@ -143,11 +144,62 @@ fn chain() -> Vec<u8> {
     m
 }
 
+/// The frame of a stream that is read, in pieces.
+struct Reader {
+    octets: Vec<u8>,
+}
+
+impl Reader {
+    fn missing(&self) -> usize {
+        match self.octets[..] {
+            [high, low, ..] => 2 + usize::from(high) * 256 + usize::from(low) - self.octets.len(),
+            _ => 2 - self.octets.len(),
+        }
+    }
+
+    fn wanted(&self) -> usize {
+        match self.missing() {
+            0 => 2,
+            missing => missing.min(512),
+        }
+    }
+
+    fn feed(&mut self, piece: &[u8]) {
+        if self.missing() == 0 {
+            self.octets.clear();
+        }
+        self.octets.extend_from_slice(piece);
+    }
+
+    fn message(&self) -> Option<&[u8]> {
+        (self.missing() == 0).then(|| &self.octets[2..])
+    }
+}
+
+/// The octets of all messages of a frame that comes so often, in pieces of so many octets.
+fn read_stream(count: u32, length: u16, piece: usize) -> u64 {
+    let mut stream = vec![b'A'; 2 + usize::from(length)];
+    stream[..2].copy_from_slice(&length.to_be_bytes());
+    let (mut reader, mut octets) = (Reader { octets: Vec::with_capacity(65_537) }, 0);
+    for _ in 0..count {
+        for mut left in stream.chunks(piece) {
+            while !left.is_empty() {
+                let (piece, rest) = left.split_at(reader.wanted().min(left.len()));
+                reader.feed(piece);
+                octets += reader.message().map_or(0, |message| message.len() as u64);
+                left = rest;
+            }
+        }
+    }
+    octets
+}
+
 fn main() {
     let words: Vec<String> = std::env::args().collect();
     let count = words[2].parse().unwrap();
     let sum = match words[1].as_str() {
         "plain" => read_often(plain(), "example.com", count),
+        "stream" => read_stream(count, words[3].parse().unwrap(), words[4].parse().unwrap()),
         _ => read_often(chain(), "a", count),
     };
     println!("{sum}");

@@ -1,0 +1,4 @@
+pub mod Examples
+pub mod Frames
+pub mod Laws
+pub mod Reading
