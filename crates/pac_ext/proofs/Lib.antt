@@ -1,0 +1,14 @@
+pub mod Colons
+pub mod Cuts
+pub mod Digits
+pub mod Eights
+pub mod Gaps
+pub mod Numbers
+pub mod Prefixes
+pub mod Quads
+pub mod ReadBack
+pub mod Rows
+pub mod Shortened
+pub mod Sides
+pub mod Spelled
+pub mod Texts
