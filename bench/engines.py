@@ -10,10 +10,16 @@ import sys
 import time
 
 TOP = os.path.dirname(os.path.dirname(os.path.abspath(__file__)))
-PAC = os.path.join(TOP, "crates", "pac_main", "out", "pac_main")
 MOMENT = "1700000000"
 URL, HOST = "http://www.example.org/news/today", "www.example.org"
 FUEL = "1000000000"
+# URLs for which the rules of a company ask nobody
+PLAIN = [
+    ("http://intranet/", "intranet"),
+    ("http://wiki.example.com/start", "wiki.example.com"),
+    ("ftp://files.example.org/a", "files.example.org"),
+    ("http://eu.updates.example.net/", "eu.updates.example.net"),
+]
 
 HELPERS = r"""
 var NOW = new Date(MOMENT * 1000);
@@ -49,12 +55,14 @@ def company():
 
 
 def program():
-    """The program, which is built first where it is not current; or that of the environment's PAC."""
+    """The program that `./pac` runs, which is built first where it has to be; or that of the environment's PAC."""
     if "PAC" in os.environ:
         return os.environ["PAC"]
-    if subprocess.run([os.path.join(TOP, "pac"), "--version"], stdout=subprocess.DEVNULL).returncode not in (0, 2):
-        sys.exit("the program was not built")
-    return PAC
+    find = '. tools/build.sh pac && find_program && echo "$program"'
+    found = subprocess.run(["bash", "-c", find], cwd=TOP, stdin=subprocess.DEVNULL, stdout=subprocess.PIPE, text=True)
+    if found.returncode != 0:
+        sys.exit("there is no program")
+    return found.stdout.rstrip("\n")
 
 
 def engines():

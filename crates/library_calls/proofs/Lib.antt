@@ -1,0 +1,5 @@
+pub mod Reading
+pub mod Found
+pub mod Zones
+pub mod Saying
+mod Urls
