@@ -1,4 +1,5 @@
-"""Checks when and how `./pac` builds, without a proof: on a copy of it beside four small crates, with its own `rt`.
+"""Checks when and how `./pac` builds, and when it runs the released program, without a proof: on a copy of it beside
+four small crates, with its own `rt`.
 
 That `rt` proves nothing. It writes each call down, and the program that it writes tells the texts of the sources that
 it was built from, and its words.
@@ -26,6 +27,7 @@ exit 7
 END
 chmod +x out/pac_main
 """
+RELEASED = "#!/bin/sh\necho released \"$@\"\nexit 6\n"
 CRATES = "low: thiserror # a library of the toolchain\npac_main: middle low\nmiddle: low\nother: low\n"
 ALL = ["lib low", "lib middle", "run pac_main"]
 
@@ -38,7 +40,9 @@ class Copy:
         self.top = os.path.join(self.room, "top")
         for name in ["top", "bin", "temporary"]:
             os.mkdir(os.path.join(self.room, name))
-        shutil.copy("pac", self.top)
+        os.mkdir(self.path("top/tools"))
+        for file in ["pac", "tools/build.sh"]:
+            shutil.copy(file, self.path(f"top/{file}"))
         self.write("top/crates.txt", CRATES)
         for crate, file in [("low", "lib"), ("low", "more"), ("middle", "lib"), ("other", "lib"), ("pac_main", "main")]:
             self.write(f"top/crates/{crate}/src/{file}.rt", f"{crate}-{file}\n")
@@ -62,6 +66,13 @@ class Copy:
             return ""
         with open(self.path(name), encoding="utf-8") as file:
             return file.read()
+
+    def release(self):
+        """Puts a program into prebuilt/, as one that was released of the sources as they stand."""
+        self.write("top/prebuilt/pac", RELEASED)
+        os.chmod(self.path("top/prebuilt/pac"), 0o755)
+        listed = ". ../tools/build.sh pac && sources >pac.sources && sha256sum pac >pac.sum"
+        subprocess.run(["bash", "-c", listed], cwd=self.path("top/prebuilt"), check=True)
 
     def start(self, *words, pac="top/pac", toolchain=True):
         # the machine's own toolchain is not found
@@ -176,6 +187,45 @@ def builds_once_for_two_calls(copy):
     expect("two calls at once", copy.read("calls").splitlines(), ALL)
 
 
+TOLD = "pac: prebuilt/pac is built of these sources, proved when it was released; bash .ci/run proves it here\n"
+
+
+def runs_the_released_program(copy):
+    copy.release()
+    expect("first call", copy.call("a", "b c", toolchain=False), ("released a b c\n", TOLD, 6, []))
+    expect("second call", copy.call("a"), ("released a\n", "", 6, []))
+    copy.release()
+    expect("released anew", copy.call("a"), ("released a\n", TOLD, 6, []))
+    copy.write("top/crates/other/src/lib.rt", "new\n")
+    expect("another crate is edited", copy.call("a"), ("released a\n", "", 6, []))
+
+
+def proves_what_was_not_released(copy):
+    copy.release()
+    copy.write("top/crates/low/src/more.rt", "new\n")
+    expect_built("edited source", copy.call(), "low-lib new middle-lib pac_main-main")
+    copy.write("top/crates/low/src/more.rt", "low-more\n")
+    expect("edited back", copy.call(), ("released\n", TOLD, 6, []))
+    copy.write("top/crates.txt", CRATES.replace("middle: low", "middle: low thiserror"))
+    expect_built("edited line of crates.txt", copy.call(), FIRST)
+
+
+def prefers_what_was_proved_here(copy):
+    copy.call()
+    copy.release()
+    expect_built("proved and released", copy.call(), FIRST, [])
+
+
+def leaves_an_altered_release_aside(copy):
+    copy.release()
+    copy.write("top/prebuilt/pac", RELEASED.replace("6", "5"))
+    out, errors, status, calls = copy.call(toolchain=False)
+    expect("altered", (out, status, calls), ("", 125, []))
+    expect("altered", "pac: prebuilt/pac is not the program that was released" in errors, True)
+    expect_built("altered", copy.call(), FIRST)
+    expect_built("proved instead", copy.call(), FIRST, [])
+
+
 def is_alive(pid):
     return os.path.exists(f"/proc/{pid}")
 
@@ -208,6 +258,10 @@ CHECKS = [
     says_that_there_is_no_toolchain,
     says_what_was_not_proved,
     builds_once_for_two_calls,
+    runs_the_released_program,
+    proves_what_was_not_released,
+    prefers_what_was_proved_here,
+    leaves_an_altered_release_aside,
     leaves_nothing_behind,
 ]
 
