@@ -1,5 +1,7 @@
 // The readings of `crates/pac_bench/src/messages.rt` and `crates/stream_cases/src/streams.rt` in a few lines of plain
-// Rust: the same checks, the same answers.
+// Rust, and the calls of `crates/address_cases/src/repeated.rt` by Rust's std: the same checks, the same answers.
+use std::fmt::Write;
+use std::net::Ipv6Addr;
 
 fn u16_at(m: &[u8], at: usize) -> Option<usize> {
     Some(usize::from(*m.get(at)?) * 256 + usize::from(*m.get(at + 1)?))
@@ -194,11 +196,48 @@ fn read_stream(count: u32, length: u16, piece: usize) -> u64 {
     octets
 }
 
+fn with_a_digit(front: &str) -> Vec<String> {
+    (0..16).map(|digit| format!("{front}{digit:x}")).collect()
+}
+
+fn sum_read(count: u32, front: &str) -> u64 {
+    let texts = with_a_digit(front);
+    let addresses = texts.iter().cycle().take(count as usize).map(|text| text.parse().unwrap_or(Ipv6Addr::UNSPECIFIED));
+    addresses.map(|address| u64::from(address.octets()[15] % 16)).sum()
+}
+
+fn length_written(count: u32, first: &str) -> u64 {
+    let (first, mut text) = (u128::from_str_radix(first, 16).unwrap(), String::with_capacity(39));
+    let mut sum = 0;
+    for turn in 0..count {
+        text.clear();
+        write!(text, "{}", Ipv6Addr::from(first.wrapping_add(u128::from(turn)))).unwrap();
+        sum += text.len() as u64;
+    }
+    sum
+}
+
+fn is_within(address: &str, prefix: &str) -> Option<bool> {
+    let address = u128::from(address.parse::<Ipv6Addr>().ok()?);
+    let (first, bits) = prefix.split_once('/')?;
+    let (first, bits) = (u128::from(first.parse::<Ipv6Addr>().ok()?), bits.parse::<u32>().ok()?);
+    let different = address ^ first;
+    Some(bits <= 128 && different.checked_shr(128 - bits).unwrap_or(0) == 0)
+}
+
+fn count_within(count: u32, front: &str, prefix: &str) -> u64 {
+    let texts = with_a_digit(front);
+    texts.iter().cycle().take(count as usize).filter(|text| is_within(text, prefix) == Some(true)).count() as u64
+}
+
 fn main() {
     let words: Vec<String> = std::env::args().collect();
     let count = words[2].parse().unwrap();
     let sum = match words[1].as_str() {
         "plain" => read_often(plain(), "example.com", count),
+        "read" => sum_read(count, &words[3]),
+        "write" => length_written(count, &words[3]),
+        "compare" => count_within(count, &words[3], &words[4]),
         "stream" => read_stream(count, words[3].parse().unwrap(), words[4].parse().unwrap()),
         _ => read_often(chain(), "a", count),
     };

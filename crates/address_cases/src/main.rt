@@ -3,6 +3,8 @@
 //! It reads the rows from its input, and stands on pac_ext.
 #![tactic(auto)]
 
+mod repeated;
+
 use anyhow::{Result, bail};
 use case_rows::{text, written_octets};
 use pac_ext::{in_prefix, quad6, write6};
@@ -17,6 +19,9 @@ fn answer(alloc: Global, part: &str, fields: &[&str]) -> Result<String> {
         "addresses" => address(alloc, fields),
         "plain texts" => plain_text(alloc, fields),
         "prefixes" => is_in_prefix(alloc, fields),
+        "repeated readings" => repeated::readings(alloc, fields),
+        "repeated writings" => repeated::writings(alloc, fields),
+        "repeated prefixes" => repeated::prefixes(alloc, fields),
         _ => bail!("no part {part}"),
     }
 }
