@@ -3,4 +3,5 @@ pub mod QueryLaws
 pub mod Records
 pub mod Replies
 pub mod RoundTrip
+pub mod CutResponses
 pub mod Writes

@@ -51,3 +51,7 @@ response_header id found =
 -- a whole response to the query with this number: no error (0) or a name error (3), with its one question
 abbrev pub is_response_to : Header → ℕ → Bool
 is_response_to h id = h.id == id && h.qr && h.opcode == 0 && not h.tc && (h.rcode == 0 || h.rcode == 3) && h.qdcount == 1
+
+-- a truncated response to it (TC), with its one question, whatever error it tells
+abbrev pub is_truncated_response_to : Header → ℕ → Bool
+is_truncated_response_to h id = h.id == id && h.qr && h.opcode == 0 && h.tc && h.qdcount == 1

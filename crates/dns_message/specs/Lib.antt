@@ -6,3 +6,4 @@ pub mod Question
 pub mod Record
 pub mod Reply
 pub mod Seen
+pub mod Truncation

@@ -8,6 +8,7 @@ ghost use Rattle.dns_message.specs.Header.{
   header_octets,
   header_of,
   is_response_to,
+  is_truncated_response_to,
   query_header,
   response_header,
 };
@@ -151,6 +152,14 @@ impl Header {
             && !self.tc
             && (self.rcode == 0 || self.rcode == 3)
             && self.qdcount == 1
+    }
+
+    /// Whether this is the header of a truncated response to the query with this number, with its one question,
+    /// whatever error it tells.
+    pub(crate) fn is_truncated_response_to(&self, id: u16) -> bool
+        ensures { result ≡ is_truncated_response_to self.now id }
+    {
+        self.id == id && self.qr && self.opcode == 0 && self.tc && self.qdcount == 1
     }
 }
 

@@ -12,7 +12,9 @@ mod query;
 mod question;
 mod record;
 mod reply;
+mod truncation;
 
-pub use laws::{one_name_replied, questions_differ};
+pub use laws::{one_name_replied, questions_differ, truncated_is_no_reply};
 pub use query::{read_query, write_query};
 pub use reply::{read_reply, write_reply};
+pub use truncation::truncated;

@@ -110,8 +110,10 @@ fn known_fields(message: &[u8], at: usize) -> usize
 
 fn known_data(message: &[u8], fields: usize, rdlength: usize) -> Data
     requires room { fields + 10 + rdlength ≤ length message.now }
-    requires known { IsSome (says_of message.now (number_at message.now fields) (number_at message.now (fields + 2)) (fields + 10) rdlength) }
-    ensures data { says_of message.now (number_at message.now fields) (number_at message.now (fields + 2)) (fields + 10) rdlength ≡ Some (says_seen message.now result) }
+    requires known { IsSome (says_of message.now (number_at message.now fields) (number_at message.now (fields + 2))
+        (fields + 10) rdlength) }
+    ensures data { says_of message.now (number_at message.now fields) (number_at message.now (fields + 2))
+        (fields + 10) rdlength ≡ Some (says_seen message.now result) }
     ensures target { IsNameOf message.now result }
 {
     match (read_u16(message, fields + 2), read_u16(message, fields)) {

@@ -28,7 +28,8 @@ impl Model for Reader {
 
     ghost view = { λ reader. reading_of reader.octets.items };
 
-    ghost invariant = { λ reader. (LONGEST_FRAME ≤ vec_capacity reader.octets) × (length reader.octets.items ≤ frame_length reader.octets.items) };
+    ghost invariant = { λ reader. (LONGEST_FRAME ≤ vec_capacity reader.octets)
+        × (length reader.octets.items ≤ frame_length reader.octets.items) };
 }
 
 impl Reader {

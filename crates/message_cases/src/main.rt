@@ -18,6 +18,7 @@ fn main(rt: HostRuntime) -> Result<()> {
 fn answer(alloc: Global, part: &str, fields: &[&str]) -> Result<String> {
     match part {
         "replies" => replies::answer(alloc, fields),
+        "truncated replies" => replies::is_truncated(alloc, fields),
         "written replies" => replies::written_reply(alloc, fields),
         "written questions" => replies::written_question(alloc, fields),
         "questions" => replies::question(alloc, fields),

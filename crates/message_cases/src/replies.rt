@@ -3,7 +3,7 @@ use crate::messages::message_in;
 use crate::names::{name_in, word};
 use anyhow::{Result, bail};
 use case_rows::written_octets;
-use dns_message::{read_query, read_reply, write_query, write_reply};
+use dns_message::{read_query, read_reply, truncated, write_query, write_reply};
 use pac_names::Answer;
 use std::alloc::Global;
 
@@ -37,6 +37,16 @@ pub(crate) fn answer(alloc: Global, fields: &[&str]) -> Result<String> {
     let message = message_in(alloc, message)?;
     let answer = read_reply(&message, number_in(number)?, &name_in(alloc, name)?);
     written_answer(alloc, answer)
+}
+
+/// Whether a message is the truncated response to the question with a number and a name.
+pub(crate) fn is_truncated(alloc: Global, fields: &[&str]) -> Result<String> {
+    let [number, name, message @ ..] = fields else {
+        bail!("a number, a name and a message");
+    };
+    let message = message_in(alloc, message)?;
+    let cut = truncated(&message, number_in(number)?, &name_in(alloc, name)?);
+    Ok(format!(in alloc; "{cut}")?)
 }
 
 /// The octets of a message of so many, and the one behind them.
