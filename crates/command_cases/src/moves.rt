@@ -7,9 +7,9 @@ use std::alloc::Global;
 /// How moves are written.
 #[derive(Clone, Copy)]
 pub(crate) enum Form {
-    /// `first:NAME/NUMBER` or `second:NAME/NUMBER` for a question, by its server, and `first:other` or `second:other` for
-    /// what is none, `given`, and `tick`, each behind a blank; behind those that come more than once in a row stands `*`
-    /// and their count.
+    /// `first:NAME/NUMBER` or `second:NAME/NUMBER` for a question, by its server, and `first:other` or `second:other`
+    /// for what is none, `given`, and `tick`, each behind a blank; behind those that come more than once in a row stands
+    /// `*` and their count.
     Questions,
     /// `first`, `second`, `given` and `tick`, each with how often it comes in a row, and each before a blank.
     Kinds,

@@ -36,7 +36,8 @@ pub(crate) fn map(alloc: Global, fields: &[&str]) -> Result<String> {
     over(alloc, words, &mut files, "0", "fails:1")
 }
 
-/// Files of which a call fails, and a sink that takes at most a step of each piece and of which a call fails; 0 is none.
+/// Files of which a call fails, and a sink that takes at most a step of each piece and of which a call fails; 0 is
+/// none.
 pub(crate) fn failing(alloc: Global, fields: &[&str]) -> Result<String> {
     let [script, names, batch, words, coming, reading, step, writing] = fields else {
         bail!("three files, words, what comes, the files' call, a step and the sink's call");

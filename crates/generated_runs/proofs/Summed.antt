@@ -6,7 +6,7 @@ use Rattle.js_evaluation.specs.Evaluation.{Entry}
 use Rattle.pac_ports.specs.declared.link.Move.{Move}
 use Rattle.pac_ports.specs.Faults.{last_count}
 use Rattle.pac_plan.specs.Plan as plans
-use Rattle.pac_plan.specs.Plan.{End, Outside, whole, unfinished}
+use Rattle.pac_plan.specs.Plan.{End, Outside, around, whole, unfinished}
 use Rattle.pac_plan.specs.Follows.{Follows, IsUnlessMemory}
 use Rattle.pac_plan.specs.OutputView.{made}
 use Rattle.pac_plan.specs.declared.output.Output.{Output}
@@ -28,7 +28,7 @@ use Rattle.memory_talk.specs.Talks.{MemoryTalk}
 use Rattle.memory_talk.proofs.Answering.{answering}
 use Rattle.memory_talk.proofs.Ends.{answered_early, answered_whole, names_counted, same_log}
 use Rattle.url_runs.specs.Runs.{ScriptRuns}
-use Rattle.url_runs.specs.Ends.{HaveEnded, around}
+use Rattle.url_runs.specs.Ends.{HaveEnded}
 use Rattle.url_runs.specs.Resolving.{ended, urls_talk}
 use Rattle.generated_runs.specs.declared.summing.Seed.{Seed}
 use Rattle.generated_runs.specs.Summing.{said, sum_plan, summary}

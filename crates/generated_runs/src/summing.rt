@@ -43,8 +43,8 @@ pub struct Network<'a> {
 }
 
 /// Runs a script for all generated URLs at once over a network in memory, and sums up when each URL has ended. The
-/// entries are what the runs are for, and the type `K` knows the answers. Memory comes for want of it, or of room in the
-/// link.
+/// entries are what the runs are for, and the type `K` knows the answers. Memory comes for want of it, or of room in
+/// the link.
 pub fn sum_urls<K: KnownAnswers, L: Ledger>(
     alloc: Global,
     from: Seed,

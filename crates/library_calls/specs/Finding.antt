@@ -14,7 +14,7 @@ use Rattle.library_calls.specs.declared.find.Asked as declared
 use Rattle.library_calls.specs.declared.settings.Settings.{Settings}
 use Rattle.library_calls.specs.declared.told.Status.TheVariants as status
 use Rattle.library_calls.specs.Told.{Told, read_as, read_then}
-use Rattle.library_calls.specs.Settings.{zone_in}
+use Rattle.library_calls.specs.Settings.{given_by, zone_in}
 use Rattle.library_calls.specs.Inputs.{names_in, script_in, url_in}
 
 -- a map of all names agrees with the names that are told: it has each answer that is read of them
@@ -29,9 +29,7 @@ pub record Asked : Type 0 where
 
 -- what the run is for: what `map` gives it by words that say these settings
 abbrev pub entry_for : Settings → ℤ → Seen → Entry
-entry_for settings zone seen =
-    entry_at (record { start = settings.moment; zone = zone; settings = record { my_ip = settings.my_ip }; fuel = settings.fuel })
-    settings.moment seen
+entry_for settings zone seen = entry_at (given_by settings zone) settings.moment seen
 
 -- as `map` has them
 abbrev pub asked_for : Settings → ℤ → List StatementTree → Seen → Asked

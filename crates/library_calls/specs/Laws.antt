@@ -14,14 +14,14 @@ use Rattle.pac_command.specs.Scripts.{script_then}
 use Rattle.pac_command.specs.Names.{names_then}
 use Rattle.pac_command.specs.Work.{urls_with}
 use Rattle.library_calls.specs.declared.settings.Settings.{Settings}
+use Rattle.library_calls.specs.Settings.{given_by}
 use Rattle.library_calls.specs.Finding.{asked_for, mapped_text}
 
 -- what `map` does, by words that say these settings, for a URL with the bytes of a script and of a file of names
 abbrev pub map_with : Settings → ℤ → List ℕ → List ℕ → List ℕ → CommandPlan
 map_with settings zone script names url =
     script_then script (λ script. names_then names (λ answers.
-    urls_with (record { start = settings.moment; zone = zone; settings = record { my_ip = settings.my_ip }; fuel = settings.fuel })
-    (one_url url) script (λ work. map_plan answers work)))
+    urls_with (given_by settings zone) (one_url url) script (λ work. map_plan answers work)))
 
 -- It runs the script once and says the text that is told, where a file of names says what this map says.
 abbrev pub MapSaysTheSame : Type 0

@@ -2,6 +2,7 @@
 use Rattle.std.specs.Prelude.{ℕ, ℤ, pos, ◌*ℤ◌, Bool, ◌&&◌, nat_lt, nat_le, int_le, unsigned_abs, [], Result, Ok, Err, if◌then◌else◌}
 use Rattle.pac_calendar.specs.declared.showing.TheConstants.{LAST_MOMENT}
 use Rattle.pac_words.specs.declared.usual.TheConstants.{MOST_FUEL}
+use Rattle.pac_command.specs.declared.given.Given.{Given}
 use Rattle.library_calls.specs.declared.settings.Settings.{Settings}
 use Rattle.library_calls.specs.declared.told.Status.TheVariants as status
 use Rattle.library_calls.specs.Told.{Told}
@@ -22,6 +23,10 @@ are_in_range settings = is_moment settings.moment && is_fuel settings.fuel && is
 
 abbrev pub bad_settings : Told
 bad_settings = record { status = status.BadSettings; bytes = [] }
+
+-- what words that say these settings give to each run; the zone in seconds east of UTC
+abbrev pub given_by : Settings → ℤ → Given
+given_by settings zone = record { start = settings.moment; zone = zone; settings = record { my_ip = settings.my_ip }; fuel = settings.fuel }
 
 -- the seconds east of UTC
 abbrev pub zone_in : Settings → Result ℤ Told

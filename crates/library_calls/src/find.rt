@@ -10,7 +10,16 @@ ghost use Rattle.report_text.specs.Report.{done, report_of};
 ghost use Rattle.url_runs.specs.Runs.{program_runs};
 ghost use Rattle.pac_command.specs.Scripts.{WasRead};
 ghost use Rattle.library_calls.specs.Told.{Comes, Reads, Tells, read_as};
-ghost use Rattle.library_calls.specs.Finding.{Agrees, asked_in, entry_for, found_proxy, name_wanted, report_told, seen_asked, told_of_run};
+ghost use Rattle.library_calls.specs.Finding.{
+  Agrees,
+  asked_in,
+  entry_for,
+  found_proxy,
+  name_wanted,
+  report_told,
+  seen_asked,
+  told_of_run,
+};
 
 use crate::early::Early;
 use crate::inputs::{names_in, script_in, url_in};

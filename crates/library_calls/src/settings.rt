@@ -7,10 +7,8 @@ use crate::early::Early;
 use crate::told::{Status, Told};
 use crate::zone::zone_east;
 use pac_calendar::{LAST_MOMENT, Zone};
+use pac_words::MOST_FUEL;
 use std::alloc::Global;
-
-/// The most fuel of a run, as that of the command line.
-const MOST_FUEL: u64 = 1_000_000_000;
 
 /// How a run is done.
 #[repr(C)]

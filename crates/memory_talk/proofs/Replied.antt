@@ -26,7 +26,8 @@ use Rattle.memory_talk.specs.Laws.{AreAddresses, AreReplied, AskFew, QuestionsAr
 use Rattle.memory_talk.proofs.Early.{all_young, none_falls}
 use Rattle.memory_talk.proofs.Few.{all_sent, few_names}
 use Rattle.memory_talk.proofs.Given.{questions_proper}
-use Rattle.memory_talk.proofs.Lacking.{none_wanted, sent_wanted}
+use Rattle.poll_log.proofs.Wanted.{sent_wanted}
+use Rattle.memory_talk.proofs.Lacking.{none_wanted}
 use Rattle.memory_talk.proofs.Prompt.{IsPrompt, IsTold, IsUnseen, IsUntold, at_due, awaited, behind, behind_new, both, each, next_due, none_kept, shorter, told_among, unseen_by}
 use Rattle.memory_talk.proofs.Same.{repeats_fall, repeats_none}
 use Rattle.memory_talk.proofs.Taking.{takes_no_other, takes_own}
@@ -190,7 +191,7 @@ module _ (most : ℕ) (answers : AnswerMap) (small : AreAddresses answers) (t : 
     none_due (q ∷ qs) e =
         let sent : was_sent h q.name ≡ true = ap (has_name q.name) (p.names ∙ ap (λ (l : List Question). p.done ++ l) e) ∙ seen_here p.done q qs in
         let untold : AllByRecursion (IsUntold t h) (q ∷ qs) = subst (AllByRecursion (IsUntold t h)) e p.waiting in
-        true_false (sym (sent_wanted most t jobs laws h o q.name sent untold.0) ∙ none_wanted (told t h) q.name jobs (all_finished jobs ended))
+        true_false (sym (sent_wanted most t jobs few.restartable h o q.name sent untold.0) ∙ none_wanted (told t h) q.name jobs (all_finished jobs ended))
 
     all_done : p.done ++ p.due ≡ p.done
     all_done = ap (λ (qs : List Question). p.done ++ qs) (none_due p.due refl) ∙ append-nil p.done

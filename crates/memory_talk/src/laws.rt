@@ -42,8 +42,8 @@ pub fn cut_is_front()
     ensures { CutIsFront }
 {}
 
-/// Where jobs ask few names, the events of a whole log are the replies to its questions, one each and in their order, and
-/// each job is finished.
+/// Where jobs ask few names, the events of a whole log are the replies to its questions, one each and in their order,
+/// and each job is finished.
 pub fn questions_are_replied()
     ensures { QuestionsAreReplied }
 {}

@@ -2,8 +2,8 @@
 //!
 //! `CountingDice` give the numbers; the link is that of pac_generate, and the loop that of poll_loop.
 //! `specs/Talks.antt` says what such a talk does to the outside of a command: nothing but runs of scripts.
-//! `specs/Laws.antt` says that its sessions end as their runs against the map do, and that each of its questions has its
-//! reply, where names are few.
+//! `specs/Laws.antt` says that its sessions end as their runs against the map do, and that each of its questions has
+//! its reply, where names are few.
 #![tactic(auto)]
 
 mod counting_dice;

@@ -2,7 +2,7 @@
 ghost use Rattle.std.specs.Prelude.{◌≡◌, None, Some};
 ghost use Rattle.utf16_text.specs.Decode.{utf16_units};
 ghost use Rattle.poll_log.specs.Sendings.{AreTerms};
-ghost use Rattle.pac_plan.specs.Plan.{Outside, talk};
+ghost use Rattle.pac_plan.specs.Plan.{Outside, around, talk};
 ghost use Rattle.pac_plan.specs.Follows.{Follows, IsUnlessMemory};
 ghost use Rattle.pac_plan.specs.OutputView.{made};
 ghost use Rattle.pac_ask.specs.Ask as plan;
@@ -29,8 +29,8 @@ pub fn ask<N: Link, D: Dice, L: Ledger>(
 ) -> Result<Output, Memory>
     requires { AreTerms upstream.terms }
     ensures { (o : Outside) → Follows talks (plan.ask_plan upstream (utf16_units word.now))
-        (record o { link = N.state link.old; dice = D.told dice.old; runs = runs.old })
-        (record o { link = N.state link.new; dice = D.told dice.new; runs = runs.new }) (made result) }
+        (around o (N.state link.old) (D.told dice.old) runs.old)
+        (around o (N.state link.new) (D.told dice.new) runs.new) (made result) }
 {
     let Ok(text) = Text::from_str(alloc, word) else {
         return Err(Memory);
@@ -55,8 +55,8 @@ fn ask_name<N: Link, D: Dice, L: Ledger>(
 ) -> Result<Output, Memory>
     requires { AreTerms upstream.terms }
     ensures { (o : Outside) → Follows talks (plan.name_plan upstream (Some name))
-        (record o { link = N.state link.old; dice = D.told dice.old; runs = runs.old })
-        (record o { link = N.state link.new; dice = D.told dice.new; runs = runs.new }) (made result) }
+        (around o (N.state link.old) (D.told dice.old) runs.old)
+        (around o (N.state link.new) (D.told dice.new) runs.new) (made result) }
 {
     let id = dice.id();
     let Ok(begun) = OneName::start(alloc, name, upstream.terms, id) else {

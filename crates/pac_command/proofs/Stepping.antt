@@ -9,13 +9,14 @@ use Rattle.js_law_names.proofs.ReadRuns.{reads_by_names}
 use Rattle.js_scope.specs.declared.program.Program.{Program}
 use Rattle.js_scope.specs.Gives.{IsProgramOf}
 use Rattle.pac_ports.specs.Files.{FilesState}
+use Rattle.pac_plan.specs.Plan.{with_files}
 use Rattle.url_runs.specs.Runs.{ScriptRuns, Work, program_runs, seen_work}
 use Rattle.url_runs.specs.declared.work.Work as declared
 use Rattle.pac_command.specs.declared.early.Early.{Early}
 use Rattle.pac_command.specs.declared.given.Given.{Given}
 use Rattle.pac_command.specs.Plans.{CommandPlan}
 use Rattle.pac_command.specs.Scripts.{WasRead}
-use Rattle.pac_command.specs.Steps.{IsStep, said, with_files}
+use Rattle.pac_command.specs.Steps.{IsStep, said}
 use Rattle.pac_command.specs.Urls.{entries_for}
 use Rattle.pac_command.specs.Work.{work_of}
 

@@ -2,7 +2,7 @@
 use Rattle.std.specs.Prelude.{List, Option, Some, None, Result, Ok, Err, Vec}
 use Rattle.std.specs.declared.alloc.Global.{Global}
 use Rattle.pac_ports.specs.Files.{FilesState}
-use Rattle.pac_plan.specs.Plan.{Output, Outside}
+use Rattle.pac_plan.specs.Plan.{Output, Outside, with_files}
 use Rattle.pac_plan.specs.OutputView.{output_view}
 use Rattle.pac_command.specs.declared.early.Early.{Early}
 use Rattle.pac_command.specs.declared.early.Early.TheVariants as early
@@ -12,9 +12,6 @@ use Rattle.pac_command.specs.Plans.{CommandPlan, Follows}
 abbrev pub said : Early → Option Output
 said (early.Said output) = Some (output_view output)
 said early.Memory = None
-
-abbrev pub with_files : Outside → FilesState → Outside
-with_files o files = record o { files = files }
 
 -- A step of a plan, before what comes next, which touches the files alone. Where it hands something on, what follows the rest
 -- of the plan from there follows the whole of it. Else the command has ended with it, whatever would have come next.

@@ -1,9 +1,8 @@
 // `check`: a script as it is printed.
-ghost use Rattle.pac_plan.specs.Plan.{Outside};
+ghost use Rattle.pac_plan.specs.Plan.{Outside, with_files};
 ghost use Rattle.pac_plan.specs.Follows.{IsUnlessMemory};
 ghost use Rattle.pac_plan.specs.OutputView.{made};
 ghost use Rattle.pac_command.specs.Plans.{Follows};
-ghost use Rattle.pac_command.specs.Steps.{with_files};
 ghost use Rattle.pac_command.specs.Check.{check_plan, printed};
 
 use crate::Status;

@@ -12,13 +12,13 @@ use pac_words::Running;
 
 /// What each run of a command is given, whatever its URL.
 #[derive(Clone, Copy)]
-pub(crate) struct Given {
+pub struct Given {
     /// The moment of the command, in seconds since 1970 in UTC.
-    pub(crate) start: i64,
-    pub(crate) zone: Zone,
+    pub start: i64,
+    pub zone: Zone,
     /// What scripts are told of this machine.
-    pub(crate) settings: PacSettings,
-    pub(crate) fuel: u64,
+    pub settings: PacSettings,
+    pub fuel: u64,
 }
 
 /// What the words give to each run. The clock is asked where they don't say the moment.

@@ -16,5 +16,6 @@ mod top;
 mod urls;
 mod work;
 
+pub use given::Given;
 pub use pac_plan::Status;
 pub use top::pac;

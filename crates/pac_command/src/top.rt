@@ -1,6 +1,6 @@
 // The top call.
 ghost use Rattle.std.specs.Prelude.{◌≡◌, Some, map, string_bytes};
-ghost use Rattle.pac_plan.specs.Follows.{Gives, IsUnlessMemory};
+ghost use Rattle.pac_plan.specs.Follows.{IsUnlessMemory};
 ghost use Rattle.pac_plan.specs.OutputView.{made};
 ghost use Rattle.pac_words.specs.Commands.{command_of};
 ghost use Rattle.pac_words.specs.Views.{asking_view, command_view};
@@ -16,8 +16,8 @@ use crate::generate::generate;
 use crate::given::given_by;
 use crate::work::{read_mapping, read_work};
 use pac_ask::ask;
-use pac_plan::{Output, line};
-use pac_ports::{Clock, Dice, Files, Link, Sink, put};
+use pac_plan::{Output, give, line};
+use pac_ports::{Clock, Dice, Files, Link, Sink};
 use pac_words::{Asking, Command, read_words};
 use poll_log::Terms;
 use poll_loop::Upstream;
@@ -130,17 +130,4 @@ fn faulty_usage(alloc: Global) -> Result<Output, Memory>
 {
     let text = "usage: pac resolve|map|check|ask|generate ARGUMENTS";
     line(alloc, Status::Usage, text, "", "")
-}
-
-// Writes the output, unless memory ran out.
-fn give<K: Sink>(out: &mut K, output: Result<Output, Memory>) -> Status
-    ensures { Gives (made output) result (K.state out.old) (K.state out.new) }
-{
-    let Ok(output) = output else {
-        return Status::Memory;
-    };
-    match put(out, &output.text) {
-        Ok(()) => output.status,
-        Err(_) => Status::WriteFault,
-    }
 }

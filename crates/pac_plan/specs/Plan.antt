@@ -39,6 +39,14 @@ pub record Outside : Type 0 where
   -- how many runs there were
   pub runs : ℕ
 
+-- the outside with these files
+abbrev pub with_files : Outside → FilesState → Outside
+with_files o files = record o { files = files }
+
+-- the outside with this link, these dice and this count of runs
+abbrev pub around : Outside → LinkState → Option DiceTold → ℕ → Outside
+around o link dice runs = record o { link = link; dice = dice; runs = runs }
+
 -- how a talk ended: at its end, by a fault of the link, or by want of memory
 pub data End : Type 0 where
   whole : End

@@ -8,5 +8,5 @@
 mod output;
 mod status;
 
-pub use output::{Output, line};
+pub use output::{Output, give, line};
 pub use status::Status;

@@ -1,9 +1,10 @@
 // The output of a command, before it is written.
 ghost use Rattle.std.specs.Prelude.{◌++◌, ◌∷◌, []};
-ghost use Rattle.pac_plan.specs.Follows.{IsUnlessMemory};
+ghost use Rattle.pac_plan.specs.Follows.{Gives, IsUnlessMemory};
 ghost use Rattle.pac_plan.specs.OutputView.{made};
 
 use crate::Status;
+use pac_ports::{Sink, put};
 use std::alloc::Global;
 use utf16_text::Memory;
 
@@ -30,4 +31,18 @@ pub fn line(
     text.extend_from_slice(third.as_bytes())?;
     text.push(b'\n')?;
     Ok(Output { status, text })
+}
+
+/// Writes the output, and gives its status. Nothing is written where memory ran out, and WriteFault comes where the sink
+/// fails.
+pub fn give<K: Sink>(out: &mut K, output: Result<Output, Memory>) -> Status
+    ensures { Gives (made output) result (K.state out.old) (K.state out.new) }
+{
+    let Ok(output) = output else {
+        return Status::Memory;
+    };
+    match put(out, &output.text) {
+        Ok(()) => output.status,
+        Err(_) => Status::WriteFault,
+    }
 }

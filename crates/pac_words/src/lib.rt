@@ -15,5 +15,5 @@ mod usual;
 mod words;
 
 pub use command::{Asking, Command, Generating, Running, Source};
-pub use usual::{LOCAL, USUAL_FUEL, USUAL_PORT, USUAL_TRIES, USUAL_WAIT};
+pub use usual::{LOCAL, MOST_FUEL, USUAL_FUEL, USUAL_PORT, USUAL_TRIES, USUAL_WAIT};
 pub use words::read_words;

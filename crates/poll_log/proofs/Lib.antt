@@ -7,6 +7,7 @@ pub mod Outgoing
 pub mod TurnLaws
 pub mod Dues
 pub mod Bounds
+pub mod Wanted
 pub mod Grows
 pub mod Births
 pub mod Orders

@@ -16,7 +16,7 @@ use Rattle.poll_log.specs.Jobs.{IsCut, Job, SendsOwed, WaitsBefore, some_wait, o
 use Rattle.poll_log.proofs.BeatLaws.{events-begin, events-then}
 use Rattle.poll_log.proofs.Bounds.{bounded, cut_few}
 use Rattle.poll_log.proofs.Names.{once-cons, true_false}
-use Rattle.pac_plan.specs.Plan.{Outside, whole, faulted, unfinished}
+use Rattle.pac_plan.specs.Plan.{Outside, around, whole, faulted, unfinished}
 use Rattle.poll_loop.specs.Events.{move_of, sent_move}
 use Rattle.poll_loop.specs.Task.{IsSound, Talk}
 use Rattle.poll_loop.specs.Numbers.{GaveAll, newly_drawn}
@@ -36,10 +36,6 @@ use Rattle.std.proofs.lemmas.List.{length-map}
 use Rattle.poll_loop.proofs.Waiting.{waits_begin, waits_then}
 use Rattle.pac_names.specs.declared.limits.TheConstants.{MOST_NAMES}
 
--- the outside with these
-abbrev pub with_all : Outside → LinkState → Option DiceTold → ℕ → Outside
-with_all old link dice runs = record old { link = link; dice = dice; runs = runs }
-
 -- a link that failed is unsure as before
 still_unsure : (a b : LinkState) → LinkFails a b → has_move a ≡ false → has_move b ≡ false
 still_unsure a b f u =
@@ -48,7 +44,7 @@ still_unsure a b f u =
     ∙ u
 
 -- a log that a fault cut short
-faulted_by : (talk : Talk) (old : Outside) (link : LinkState) (dice : Option DiceTold) (runs : ℕ) (sound : IsSound talk.task) (log : List Move) (h : Turns) → turns_of log ≡ h → (unsent : List Outgoing) → SendsOwed talk.task.terms talk.task.jobs (with_sent h unsent) → WaitsBefore talk.task.terms talk.task.jobs h → some_wait talk.task.terms talk.task.jobs h ≡ true → LinkFails (adding log (with_open talk.servers old.link)) link → has_move link ≡ false → GaveAll old.dice (drawn (with_sent h unsent)) dice → runs ≡ old.runs + talk.task.runs (with_sent h unsent) → Talked talk old faulted log (with_all old link dice runs)
+faulted_by : (talk : Talk) (old : Outside) (link : LinkState) (dice : Option DiceTold) (runs : ℕ) (sound : IsSound talk.task) (log : List Move) (h : Turns) → turns_of log ≡ h → (unsent : List Outgoing) → SendsOwed talk.task.terms talk.task.jobs (with_sent h unsent) → WaitsBefore talk.task.terms talk.task.jobs h → some_wait talk.task.terms talk.task.jobs h ≡ true → LinkFails (adding log (with_open talk.servers old.link)) link → has_move link ≡ false → GaveAll old.dice (drawn (with_sent h unsent)) dice → runs ≡ old.runs + talk.task.runs (with_sent h unsent) → Talked talk old faulted log (around old link dice runs)
 faulted_by talk old link dice runs sound log h e unsent owed before waits l u drew ran =
     let cut : IsCut talk.task.terms talk.task.jobs (turns_of log) = record {
       unsent = unsent;
@@ -109,7 +105,7 @@ module _ (talk : Talk) (Stands : Turns → Type 0) (old : Outside) (sent : List 
       }
 
   -- the link failed at the first questions
-  pub faulted_begin : (n : ℕ) (link : LinkState) → SendFails (with_open talk.servers old.link) sent n link → (log : List Move) × Talked talk old faulted log (with_all old link dice runs)
+  pub faulted_begin : (n : ℕ) (link : LinkState) → SendFails (with_open talk.servers old.link) sent n link → (log : List Move) × Talked talk old faulted log (around old link dice runs)
   faulted_begin n link f =
       let whole_turn : take n sent ++ drop n sent ≡ sent = take-append-drop n sent in (
         map sent_move (take n sent),
@@ -124,7 +120,7 @@ module _ (talk : Talk) (Stands : Turns → Type 0) (old : Outside) (sent : List 
       )
 
   -- there was nothing to send
-  pub nothing_begin : (link : LinkState) → link ≡ old.link → sent ≡ [] → (log : List Move) × Talked talk old whole log (with_all old link dice runs) × Stands (turns_of log)
+  pub nothing_begin : (link : LinkState) → link ≡ old.link → sent ≡ [] → (log : List Move) × Talked talk old whole log (around old link dice runs) × Stands (turns_of log)
   unfolding with_moves
   nothing_begin link l e = (
     [],
@@ -176,7 +172,7 @@ module _ (talk : Talk) (Stands : Turns → Type 0) (old : Outside) (link : LinkS
       }
 
   -- the link failed where an event was to come
-  pub faulted_receive : (link' : LinkState) → some_wait talk.task.terms talk.task.jobs (turns_of r.moves) ≡ true → LinkFails link link' → has_move link ≡ false → (log : List Move) × Talked talk old faulted log (with_all old link' dice runs)
+  pub faulted_receive : (link' : LinkState) → some_wait talk.task.terms talk.task.jobs (turns_of r.moves) ≡ true → LinkFails link link' → has_move link ≡ false → (log : List Move) × Talked talk old faulted log (around old link' dice runs)
   faulted_receive link' w l u = (
     r.moves,
     faulted_by talk old link' dice runs r.sound r.moves (turns_of r.moves) refl []
@@ -190,7 +186,7 @@ module _ (talk : Talk) (Stands : Turns → Type 0) (old : Outside) (link : LinkS
   )
 
   -- the link failed where something was to be sent
-  pub faulted_send : (Stands' : Turns → Type 0) (e : Event) (sent : List Outgoing) (link' : LinkState) (dice' : Option DiceTold) (runs' : ℕ) → some_wait talk.task.terms talk.task.jobs (turns_of r.moves) ≡ true → Stepped Stands' talk.task (turns_of r.moves) e sent dice dice' runs runs' → (n : ℕ) → SendFails (adding (move_of e ∷ []) link) sent n link' → (log : List Move) × Talked talk old faulted log (with_all old link' dice' runs')
+  pub faulted_send : (Stands' : Turns → Type 0) (e : Event) (sent : List Outgoing) (link' : LinkState) (dice' : Option DiceTold) (runs' : ℕ) → some_wait talk.task.terms talk.task.jobs (turns_of r.moves) ≡ true → Stepped Stands' talk.task (turns_of r.moves) e sent dice dice' runs runs' → (n : ℕ) → SendFails (adding (move_of e ∷ []) link) sent n link' → (log : List Move) × Talked talk old faulted log (around old link' dice' runs')
   faulted_send Stands' e sent link' dice' runs' w s n f =
       let h = turns_of r.moves in
       let whole_turn : take n sent ++ drop n sent ≡ sent = take-append-drop n sent in (
@@ -206,7 +202,7 @@ module _ (talk : Talk) (Stands : Turns → Type 0) (old : Outside) (link : LinkS
       )
 
   -- memory ran out at an event
-  pub ended_memory : (e : Event) (link' : LinkState) (dice' : Option DiceTold) (runs' : ℕ) → some_wait talk.task.terms talk.task.jobs (turns_of r.moves) ≡ true → StepFails talk.task (turns_of r.moves) e dice dice' runs runs' → link' ≡ adding (move_of e ∷ []) link → (log : List Move) × Talked talk old unfinished log (with_all old link' dice' runs')
+  pub ended_memory : (e : Event) (link' : LinkState) (dice' : Option DiceTold) (runs' : ℕ) → some_wait talk.task.terms talk.task.jobs (turns_of r.moves) ≡ true → StepFails talk.task (turns_of r.moves) e dice dice' runs runs' → link' ≡ adding (move_of e ∷ []) link → (log : List Move) × Talked talk old unfinished log (around old link' dice' runs')
   ended_memory e link' dice' runs' w s l =
       let h = turns_of r.moves in
       let f : turns_of (r.moves ++ move_of e ∷ []) ≡ Then h e [] = turns_more r.moves e [] in (
@@ -225,7 +221,7 @@ module _ (talk : Talk) (Stands : Turns → Type 0) (old : Outside) (link : LinkS
       )
 
   -- nobody waits any more
-  pub ended_whole : some_wait talk.task.terms talk.task.jobs (turns_of r.moves) ≡ false → (log : List Move) × Talked talk old whole log (with_all old link dice runs) × Stands (turns_of log)
+  pub ended_whole : some_wait talk.task.terms talk.task.jobs (turns_of r.moves) ≡ false → (log : List Move) × Talked talk old whole log (around old link dice runs) × Stands (turns_of log)
   ended_whole w = (
     r.moves,
     record {
@@ -243,7 +239,7 @@ module _ (talk : Talk) (Stands : Turns → Type 0) (old : Outside) (link : LinkS
   )
 
   -- after so many events nobody waits
-  pub ended_by_bound : most_events talk.task.terms ≤ count → (log : List Move) × Talked talk old whole log (with_all old link dice runs) × Stands (turns_of log)
+  pub ended_by_bound : most_events talk.task.terms ≤ count → (log : List Move) × Talked talk old whole log (around old link dice runs) × Stands (turns_of log)
   ended_by_bound high = ended_whole (go (some_wait talk.task.terms talk.task.jobs (turns_of r.moves)) refl)
     where
       go : (b : Bool) → some_wait talk.task.terms talk.task.jobs (turns_of r.moves) ≡ b → b ≡ false
@@ -257,11 +253,11 @@ module _ (talk : Talk) (Stands : Turns → Type 0) (old : Outside) (link : LinkS
     pub sent_more_turn : link' ≡ adding (map sent_move (map outgoing_of qs')) mid → Reached talk Stands' old link' dice' runs' (count + 1)
     sent_more_turn l = reached_more Stands' e (map outgoing_of qs) link' dice' runs' w s (l ∙ ap (λ x. adding (map sent_move (map outgoing_of x)) mid) same ∙ ap (adding (map sent_move (map outgoing_of qs))) here)
 
-    pub faulted_send_turn : (n : ℕ) × SendFails mid (map outgoing_of qs') n link' → (log : List Move) × Talked talk old faulted log (with_all old link' dice' runs')
+    pub faulted_send_turn : (n : ℕ) × SendFails mid (map outgoing_of qs') n link' → (log : List Move) × Talked talk old faulted log (around old link' dice' runs')
     faulted_send_turn f = faulted_send Stands' e (map outgoing_of qs) link' dice' runs' w s f.0 (subst (λ x. SendFails x (map outgoing_of qs) f.0 link') here (subst (λ x. SendFails mid (map outgoing_of x) f.0 link') same f.1))
 
 -- from a turn to the whole
-pub stopped : (talk : Talk) (Stands : Turns → Type 0) (old : Outside) (why : PollError) (link : LinkState) (dice : Option DiceTold) (runs count : ℕ) → Turned talk Stands old (Err why) link dice runs count → Polled talk Stands old (Err why) (with_all old link dice runs)
+pub stopped : (talk : Talk) (Stands : Turns → Type 0) (old : Outside) (why : PollError) (link : LinkState) (dice : Option DiceTold) (runs count : ℕ) → Turned talk Stands old (Err why) link dice runs count → Polled talk Stands old (Err why) (around old link dice runs)
 stopped talk Stands old error.Link link dice runs count t = t
 stopped talk Stands old error.Memory link dice runs count t = t
 

@@ -3,24 +3,25 @@ use Rattle.std.proofs.Common.{◌≡◌, ℕ, zero, suc, ◌+◌, ◌<◌, ◌�
 use Rattle.std.specs.List.{All, cons_option, filter, list_any}
 use Rattle.std.proofs.lemmas.Bool.Decides.{nat_tests}
 use Rattle.std.proofs.lemmas.List.{append-nil}
-use Rattle.std.proofs.lemmas.List.Elements.{All-head, All-nil, All-tail, All-take}
+use Rattle.std.proofs.lemmas.List.Elements.{All-nil, All-take}
 use Rattle.pac_names.specs.declared.answer.Answer.{Answer}
 use Rattle.poll_log.specs.declared.question.Question.{Question}
 use Rattle.poll_log.specs.declared.terms.Terms.{Terms}
 use Rattle.poll_log.specs.Turns.{Outgoing, Turns, Begin, Then, Event}
 use Rattle.poll_log.specs.Beats.{is_beat}
-use Rattle.poll_log.specs.Questions.{IsQuestion, asked_in, outgoing_from, firsts, questions, names_of, new_among, same_name, has_name, was_sent}
+use Rattle.poll_log.specs.Questions.{IsQuestion, asked_in, outgoing_from, firsts, questions, new_among, same_name, has_name, was_sent}
 use Rattle.poll_log.specs.Sendings.{limit}
 use Rattle.poll_log.specs.Told.{Map, told, age, is_dead, due_sends}
-use Rattle.poll_log.specs.Jobs.{IsOwed, Job, SendsOwed, onto_new, once, some_wait, waits_unless, wanted}
-use Rattle.poll_log.specs.Laws.{Extends, IsRestartable}
-use Rattle.poll_log.proofs.Names.{AllNew, has, has-names, has_name-append, new_among-new, none_some, once-cons, once-none, or-first, or-second, same_is, same_itself, true_false}
+use Rattle.poll_log.specs.Jobs.{IsOwed, Job, SendsOwed, some_wait, waits_unless, wanted}
+use Rattle.poll_log.specs.Laws.{IsRestartable}
+use Rattle.poll_log.proofs.Names.{AllNew, has, new_among-new, or-first, or-second, same_is, same_itself, true_false}
 use Rattle.poll_log.proofs.Asking.{asked_in-outgoing}
 use Rattle.poll_log.proofs.Outgoing.{length-outgoing, take-outgoing}
 use Rattle.poll_log.proofs.Counts.{seen_here}
 use mathlib.Core.Path.{fun_ext}
-use Rattle.poll_log.proofs.Bounds.{alive_if_young, extends_next}
-use Rattle.poll_log.proofs.Dues.{again_are, all_proper, firsts_next, firsts_of_begin, firsts_proper, fresh_new, sent_as_due}
+use Rattle.poll_log.proofs.Bounds.{alive_if_young}
+use Rattle.poll_log.proofs.Wanted.{fresh_wanted, sent_wanted}
+use Rattle.poll_log.proofs.Dues.{again_are, all_proper, firsts_next, firsts_proper, fresh_new, sent_as_due}
 use Rattle.poll_log.proofs.TurnLaws.{age_next, age_unsent, due_begin, due_next, due_unsent, falls_at, firsts-begin, firsts-then, told_by_event, told-begin}
 use Rattle.pac_names.specs.declared.limits.TheConstants.{MOST_NAMES}
 
@@ -37,60 +38,6 @@ module _ (M : Map) (dead : List ℕ → Bool) (n : List ℕ) (alive : dead n ≡
           same : (b : Bool) → same_name m n ≡ b → (b || has n (wanted jobs M)) ≡ true → (not (dead m) || list_any (λ job. waits_unless dead (job M)) jobs) ≡ true
           same true e h = or-first _ _ (ap (λ x. not (dead x)) (same_is m n e) ∙ ap not alive)
           same false e h = or-second _ _ (ih h)
-
-once_wanted : (seen ns : List (List ℕ)) (m : List ℕ) → has m (once seen ns) ≡ true → has m ns ≡ true
-once_wanted seen [] m h = true_false (sym h ∙ ap (has m) (once-none seen))
-once_wanted seen (n ∷ ns) m h = go (has n seen) (λ k. once_wanted seen ns m k) (λ k. once_wanted (seen ++ n ∷ []) ns m k) (ap (has m) (sym (once-cons seen n ns)) ∙ h)
-  where
-    go : (b : Bool) → (has m (once seen ns) ≡ true → has m ns ≡ true) → (has m (once (seen ++ n ∷ []) ns) ≡ true → has m ns ≡ true) → has m (onto_new b n (once seen ns) (once (seen ++ n ∷ []) ns)) ≡ true → (same_name n m || has m ns) ≡ true
-    go true left behind h = or-second _ _ (left h)
-    go false left behind h = same (same_name n m) h
-      where
-        same : (c : Bool) → (c || has m (once (seen ++ n ∷ []) ns)) ≡ true → (c || has m ns) ≡ true
-        same true h = refl
-        same false h = behind h
-
-wanted_stays : (jobs : List Job) (N M : Map) (n : List ℕ) → All (IsRestartable MOST_NAMES) jobs → Extends N M → N n ≡ None → has n (wanted jobs M) ≡ true → has n (wanted jobs N) ≡ true
-wanted_stays [] N M n laws x u h = h
-wanted_stays (job ∷ jobs) N M n laws x u h = go (job M) refl (λ k. wanted_stays jobs N M n (All-tail (IsRestartable MOST_NAMES) job jobs laws) x u k) h
-  where
-    law : IsRestartable MOST_NAMES job
-    law = All-head (IsRestartable MOST_NAMES) job jobs laws
-
-    behind : (r : Option (List ℕ)) → has n (wanted jobs N) ≡ true → has n (cons_option r (wanted jobs N)) ≡ true
-    behind None h = h
-    behind (Some m) h = or-second _ _ h
-
-    go : (r : Option (List ℕ)) → job M ≡ r → (has n (wanted jobs M) ≡ true → has n (wanted jobs N) ≡ true) → has n (cons_option r (wanted jobs M)) ≡ true → has n (cons_option (job N) (wanted jobs N)) ≡ true
-    go None e ih h = behind (job N) (ih h)
-    go (Some m) e ih h = same (same_name m n) refl h
-      where
-        same : (b : Bool) → same_name m n ≡ b → (b || has n (wanted jobs M)) ≡ true → has n (cons_option (job N) (wanted jobs N)) ≡ true
-        same true k h =
-            let f : job M ≡ Some n = e ∙ ap Some (same_is m n k) in
-            ap (λ r. has n (cons_option r (wanted jobs N))) (law.waits N M n x f u) ∙ or-first _ _ (same_itself n)
-        same false k h = behind (job N) (ih h)
-
-split_or : (x y : Bool) → (x || y) ≡ true → (x ≡ true) ⊎ (y ≡ true)
-split_or true y h = inl refl
-split_or false y h = inr h
-
--- a name that was sent and is not told is wanted
-module _ (t : Terms) (jobs : List Job) (laws : All (IsRestartable MOST_NAMES) jobs) where
-  fresh_wanted : (before fresh : List Question) (M : Map) (n : List ℕ) → names_of fresh ≡ once (names_of before) (wanted jobs M) → has_name n fresh ≡ true → has n (wanted jobs M) ≡ true
-  fresh_wanted before fresh M n asks h = once_wanted (names_of before) (wanted jobs M) n (ap (has n) (sym asks) ∙ has-names n fresh ∙ h)
-
-  sent_wanted : (h : Turns) → SendsOwed t jobs h → (n : List ℕ) → was_sent h n ≡ true → told t h n ≡ None → has n (wanted jobs (told t h)) ≡ true
-  sent_wanted (Begin sent) o n s u = fresh_wanted [] o.fresh (told t (Begin sent)) n o.asks (ap (has_name n) (sym (firsts_of_begin t jobs sent o)) ∙ s)
-  sent_wanted (Then h e sent) o n s u =
-      elim (split_or (has_name n (firsts h)) (has_name n o.1.fresh) (sym (has_name-append n (firsts h) o.1.fresh) ∙ ap (has_name n) (sym (firsts_next t jobs h e sent o.0 o.1)) ∙ s)) [
-        | inl old ↦ wanted_stays jobs (told t (Then h e sent)) (told t h) n laws (extends_next t h e sent) u (sent_wanted h o.0 n old (untold (told t h n) refl))
-        | inr new ↦ fresh_wanted (firsts h) o.1.fresh (told t (Then h e sent)) n o.1.asks new
-      ]
-    where
-      untold : (r : Option Answer) → told t h n ≡ r → told t h n ≡ None
-      untold None e = e
-      untold (Some x) k = none_some x (sym u ∙ extends_next t h e sent n x k)
 
 -- The place of what is not sent yet.
 record Place (qs : List Question) (k : ℕ) : Type 0 where
@@ -229,14 +176,14 @@ module _ (t : Terms) (jobs : List Job) (w : 0 < t.wait) (r : 0 < t.tries) (laws 
             waiting
             (new_alive t (questions h) (firsts h) now.fresh (fresh_new t jobs (questions h) (firsts h) (Then h e sent) sent now proper) T p.next (take k qs) new
             (All-take IsQuestion k qs (all_proper t jobs (questions h) (firsts h) (Then h e sent) sent now proper)) (firsts-then h e (take k sent) ∙ ap (λ l. firsts h ++ new_among (firsts h) (asked_in l)) p.part))
-            (fresh_wanted t jobs laws (firsts h) now.fresh (told t (Then h e sent)) n now.asks (ap (has_name n) new.parts ∙ seen_here (take k qs) p.next new.post))
+            (fresh_wanted jobs (firsts h) now.fresh (told t (Then h e sent)) n now.asks (ap (has_name n) new.parts ∙ seen_here (take k qs) p.next new.post))
         go (inr again) =
             let found = in_filter (λ q. falls_at t h e q.name) (firsts h ++ now.fresh) again.front again.back p.next (sym falling ∙ again.parts) in
             let due = parts_true _ _ _ _ found.0 in
             let old : age T n ≤ age h n + 1 = aged_at_most (take k sent) n in
             let young : age h n + 1 < limit t = below (age h n + 1) (limit t) due.1 in
             let untold : told t (Then h e sent) n ≡ None = ap (λ M. M n) (told_by_event t h e sent []) ∙ none_is (told t (Then h e []) n) due.0 in
-            waiting (alive_if_young t T n (omega arith)) (sent_wanted t jobs laws (Then h e sent) (o, now) n (ap (has_name n) (firsts_next t jobs h e sent o now) ∙ found.1) untold)
+            waiting (alive_if_young t T n (omega arith)) (sent_wanted MOST_NAMES t jobs laws (Then h e sent) (o, now) n (ap (has_name n) (firsts_next t jobs h e sent o now) ∙ found.1) untold)
 
   -- Something is still to be sent at the start.
   module _ (sent : List Outgoing) (now : IsOwed t jobs [] [] (Begin sent) sent) where
@@ -267,5 +214,5 @@ module _ (t : Terms) (jobs : List Job) (w : 0 < t.wait) (r : 0 < t.tries) (laws 
             (new_alive t [] [] now.fresh (fresh_new t jobs [] [] (Begin sent) sent now (All-nil IsQuestion)) T p.next (take k qs) new
             (All-take IsQuestion k qs (all_proper t jobs [] [] (Begin sent) sent now (All-nil IsQuestion))) (firsts-begin (take k sent) ∙ ap (λ l. new_among [] (asked_in l)) p.part))
             jobs
-            (ap (λ M. has n (wanted jobs M)) same ∙ fresh_wanted t jobs laws [] now.fresh (told t (Begin sent)) n now.asks (ap (has_name n) new.parts ∙ seen_here (take k qs) p.next new.post))
+            (ap (λ M. has n (wanted jobs M)) same ∙ fresh_wanted jobs [] now.fresh (told t (Begin sent)) n now.asks (ap (has_name n) new.parts ∙ seen_here (take k qs) p.next new.post))
         go (inr again) = true_false (sym (in_filter (λ q. false) now.fresh again.front again.back p.next (sym none_again ∙ again.parts)).0)

@@ -7,7 +7,7 @@ use Rattle.poll_log.specs.Turns.{Turns, turns_of}
 use Rattle.poll_log.specs.Beats.{events}
 use Rattle.poll_log.specs.Questions.{drawn}
 use Rattle.poll_log.specs.Jobs.{SendsOwed, WaitsBefore}
-use Rattle.pac_plan.specs.Plan.{Outside, whole, faulted, unfinished}
+use Rattle.pac_plan.specs.Plan.{Outside, around, whole, faulted, unfinished}
 use Rattle.poll_loop.specs.Task.{IsSound, Talk}
 use Rattle.poll_loop.specs.Numbers.{GaveAll}
 use Rattle.poll_loop.specs.Talks.{Talked}
@@ -36,5 +36,5 @@ Polled talk Stands old (Err error.Memory) new = (log : List Move) × Talked talk
 -- so many events came, or the talk ended
 abbrev pub Turned : Talk → (Turns → Type 0) → Outside → Result (Unit {0}) PollError → LinkState → Option DiceTold → ℕ → ℕ → Type 0
 Turned talk Stands old (Ok u) link dice runs count = Reached talk Stands old link dice runs count
-Turned talk Stands old (Err error.Link) link dice runs count = (log : List Move) × Talked talk old faulted log (record old { link = link; dice = dice; runs = runs })
-Turned talk Stands old (Err error.Memory) link dice runs count = (log : List Move) × Talked talk old unfinished log (record old { link = link; dice = dice; runs = runs })
+Turned talk Stands old (Err error.Link) link dice runs count = (log : List Move) × Talked talk old faulted log (around old link dice runs)
+Turned talk Stands old (Err error.Memory) link dice runs count = (log : List Move) × Talked talk old unfinished log (around old link dice runs)

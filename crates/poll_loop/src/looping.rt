@@ -1,6 +1,6 @@
 // The loop.
 ghost use Rattle.std.specs.Prelude.{◌≡◌, ℕ, ◌+◌, ◌*◌, ◌<◌, ◌≤◌, OnOk, length, map, true};
-ghost use Rattle.pac_plan.specs.Plan.{Outside};
+ghost use Rattle.pac_plan.specs.Plan.{Outside, around};
 ghost use Rattle.poll_log.specs.Turns.{turns_of};
 ghost use Rattle.poll_log.specs.Questions.{outgoing_of};
 ghost use Rattle.poll_log.specs.Sendings.{AreTerms};
@@ -53,7 +53,7 @@ pub fn poll<P: Poller, N: Link, D: Dice, L: Ledger>(
         old.link ≡ N.state link.old →
         Began (P.stands poller.old talk.task) talk.task (map outgoing_of first.now) old (D.told dice.old) runs.old →
         Polled talk (P.stands poller.new talk.task) old result
-        (record old { link = N.state link.new; dice = D.told dice.new; runs = runs.new }) }
+        (around old (N.state link.new) (D.told dice.new) runs.new) }
     ensures kept { OnOk result (P.kept poller.new ≡ P.kept poller.old) }
 {
     if first.is_empty() {

@@ -1,6 +1,6 @@
 // All sessions, over a link.
 ghost use Rattle.std.specs.Prelude.{◌≡◌, Err, IfOk, List};
-ghost use Rattle.pac_plan.specs.Plan.{Outside, whole, faulted, unfinished};
+ghost use Rattle.pac_plan.specs.Plan.{Outside, around, whole, faulted, unfinished};
 ghost use Rattle.pac_ports.specs.declared.link.Move.{Move};
 ghost use Rattle.poll_log.specs.Sendings.{AreTerms};
 ghost use Rattle.poll_log.specs.Turns.{turns_of};
@@ -30,17 +30,17 @@ pub fn run_all<R: Run, N: Link, D: Dice, L: Ledger>(
     ensures ok { IfOk result (λ sessions. (old : Outside) →
         old.link ≡ N.state link.old → old.dice ≡ D.told dice.old → old.runs ≡ runs.old →
         (log : List Move) × Talked (talk_of upstream (run_jobs R.tree all.items)) old whole log
-        (record old { link = N.state link.new; dice = D.told dice.new; runs = runs.new })
+        (around old (N.state link.new) (D.told dice.new) runs.new)
         × AllEnded R.gives R.tree all.items upstream.terms (turns_of log) sessions.items) }
     // The link failed, and the log is cut short.
     ensures fault { result ≡ Err PollError.Link → (old : Outside) →
         old.link ≡ N.state link.old → old.dice ≡ D.told dice.old → old.runs ≡ runs.old →
         (log : List Move) × Talked (talk_of upstream (run_jobs R.tree all.items)) old faulted log
-        (record old { link = N.state link.new; dice = D.told dice.new; runs = runs.new }) }
+        (around old (N.state link.new) (D.told dice.new) runs.new) }
     ensures memory { result ≡ Err PollError.Memory → (old : Outside) →
         old.link ≡ N.state link.old → old.dice ≡ D.told dice.old → old.runs ≡ runs.old →
         (log : List Move) × Talked (talk_of upstream (run_jobs R.tree all.items)) old unfinished log
-        (record old { link = N.state link.new; dice = D.told dice.new; runs = runs.new }) }
+        (around old (N.state link.new) (D.told dice.new) runs.new) }
 {
     let Ok(begun) = Core::start(alloc, all, upstream.terms, dice, runs) else {
         return Err(PollError::Memory);

@@ -1,8 +1,6 @@
 -- How it ends with the URLs of a script that is run over a link, by the log.
 use Rattle.std.specs.Prelude.{◌≡◌, ℕ, List, Option, None, Result, Ok, Err, Vec, map}
 use Rattle.std.specs.declared.alloc.Global.{Global}
-use Rattle.pac_ports.specs.Dice.{DiceTold}
-use Rattle.pac_ports.specs.Link.{LinkState}
 use Rattle.pac_ports.specs.declared.link.Move.{Move}
 use Rattle.batch_text.specs.Batch.{BatchEntry}
 use Rattle.js_host.specs.Answers.{AnswerMap}
@@ -38,10 +36,6 @@ abbrev pub session_end : Session UrlRun Outcome → UrlEnd
 session_end session = record { end = end_of session.progress; runs = session.runs }
 
 -- ---- all URLs
-
--- an outside with this link, these dice and this count of runs
-abbrev pub around : Outside → LinkState → Option DiceTold → ℕ → Outside
-around o link dice runs = record o { link = link; dice = dice; runs = runs }
 
 -- The talk for all URLs went to its end, and it ended so with each of them by its log, against every map of all names that
 -- holds what is told; or the link failed; or memory ran out in the talk or behind it.

@@ -2,14 +2,14 @@
 ghost use Rattle.std.specs.Prelude.{◌≡◌, IfErr, IfOk, map};
 ghost use Rattle.js_interp.specs.Answers.{entry_of};
 ghost use Rattle.poll_log.specs.Sendings.{AreTerms};
-ghost use Rattle.pac_plan.specs.Plan.{Outside};
+ghost use Rattle.pac_plan.specs.Plan.{Outside, around};
 ghost use Rattle.pac_plan.specs.Follows.{Follows};
 ghost use Rattle.pac_plan.specs.OutputView.{made};
 ghost use Rattle.pac_ask.specs.Talks.{talks};
 ghost use Rattle.batch_text.specs.Batch.{entry_seen};
 ghost use Rattle.report_text.specs.Report.{seen, seen_end};
 ghost use Rattle.url_runs.specs.Runs.{program_runs, seen_for, seen_run, seen_work};
-ghost use Rattle.url_runs.specs.Ends.{HaveEnded, IsSaid, around, end_of, seen_ends, session_end};
+ghost use Rattle.url_runs.specs.Ends.{HaveEnded, IsSaid, end_of, seen_ends, session_end};
 ghost use Rattle.url_runs.specs.Resolving as plan;
 ghost use Rattle.url_runs.specs.Resolving.{Completion};
 

@@ -5,7 +5,7 @@ use Rattle.pac_plan.proofs.GivesUp.{gives_up}
 use Rattle.pac_ask.specs.Talks.{talks}
 use Rattle.url_runs.specs.Runs.{Work}
 use Rattle.pac_command.specs.Plans.{Follows}
-use Rattle.pac_command.specs.Steps.{with_files}
+use Rattle.pac_plan.specs.Plan.{with_files}
 use Rattle.pac_command.specs.Work.{work_of}
 use Rattle.pac_command.proofs.Stepping.{work_is}
 use Rattle.pac_command.proofs.work.with_urls.Goals as goal

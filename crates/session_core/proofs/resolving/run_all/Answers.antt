@@ -1,6 +1,6 @@
 use Rattle.std.proofs.Common.{◌≡◌, ◌+◌, ◌≤◌, [], arith, length, refl, subst, sym, ◌∙◌}
 use Rattle.std.proofs.lemmas.List.{length-map}
-use Rattle.pac_plan.specs.Plan.{unfinished}
+use Rattle.pac_plan.specs.Plan.{around, unfinished}
 use Rattle.pac_ports.specs.Link.{LinkState}
 use Rattle.poll_log.specs.Turns.{turns_of}
 use Rattle.poll_loop.specs.Talks.{Talked}
@@ -19,7 +19,7 @@ returns-in_default-clause-memory g c e old l d r =
     let terms : AreTerms c.args.upstream.terms = record { waits = c.requires.waits; wait = c.requires.wait; tried = c.requires.tried; tries = c.requires.tries } in
     let drew : GaveSome old.dice (g.D.Dice.told c.start.new.dice) = subst (λ x. GaveSome x (g.D.Dice.told c.start.new.dice)) (sym d) c.in_default.ensures.memory in (
       [],
-      subst (λ (x : LinkState). Talked (talk_of c.args.upstream (run_jobs g.R.Run.tree c.args.all.items)) old unfinished [] (record old { link = x; dice = g.D.Dice.told c.start.new.dice; runs = c.start.new.runs })) l
+      subst (λ (x : LinkState). Talked (talk_of c.args.upstream (run_jobs g.R.Run.tree c.args.all.items)) old unfinished [] (around old x (g.D.Dice.told c.start.new.dice) c.start.new.runs)) l
           (not_sent c.args.upstream (run_jobs g.R.Run.tree c.args.all.items) old terms (all_named g.R.Run.gives g.R.Run.tree g.met.R.Run.named c.args.all.items) (g.D.Dice.told c.start.new.dice) c.start.new.runs drew (omega arith)),
     )
 

@@ -1,9 +1,8 @@
 use Rattle.std.proofs.Common.{[], map, refl}
 use Rattle.js_interp.specs.Answers.{entry_of}
-use Rattle.pac_plan.specs.Plan.{unfinished}
+use Rattle.pac_plan.specs.Plan.{around, unfinished}
 use Rattle.poll_log.specs.Turns.{turns_of}
 use Rattle.poll_loop.proofs.Kept.{not_begun}
-use Rattle.url_runs.specs.Ends.{around}
 use Rattle.url_runs.specs.Runs.{program_runs}
 use Rattle.url_runs.proofs.AllEnds.{have_ended}
 use Rattle.url_runs.proofs.Ending.{for_urls, urls_end}
