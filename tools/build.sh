@@ -16,6 +16,7 @@ fail() { say "$@"; exit 125; }
 # The crate of each program, and the words with which it is run once where it is built: with these it ends well.
 case $name in
 pac) crate=pac_main example=(resolve "$top/examples/direct.pac" http://example.com/) ;;
+pac-lint) crate=pac_lint example=("$top/examples/direct.pac") ;;
 *) fail "tools/build.sh knows no such program" ;;
 esac
 out="$top/crates/$crate/out"
