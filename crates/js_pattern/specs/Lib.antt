@@ -1,0 +1,17 @@
+pub mod Code
+pub mod Examples
+pub mod Groups
+pub mod Laws
+pub mod Leaves
+pub mod Offers
+pub mod Pattern
+pub mod Place
+pub mod Repeats
+pub mod Search
+pub mod Size
+pub mod Smaller
+pub mod Tree
+pub mod View
+pub mod Walk
+pub mod Ways
+pub mod Within

@@ -1,0 +1,11 @@
+pub mod Answers
+pub mod Classes
+pub mod Counts
+pub mod Escapes
+pub mod Examples
+pub mod Flags
+pub mod Groups
+pub mod Laws
+pub mod Pieces
+pub mod Reading
+pub mod Spots
