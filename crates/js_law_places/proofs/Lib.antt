@@ -1,8 +1,3 @@
-pub mod AsideExpressions
-pub mod AsideLoops
-pub mod AsideOperators
 pub mod AsideScripts
-pub mod AsideStatements
-pub mod Asides
-pub mod PlacelessParts
 pub mod FirstLine
+pub mod PlacelessParts

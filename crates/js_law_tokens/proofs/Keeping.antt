@@ -1,13 +1,11 @@
 -- How tokens that are printed stem from tokens that were read.
-use Rattle.std.proofs.Common.{◌≡◌, ℕ, ◌≤◌, List, [], ◌∷◌, ◌++◌, length, Some, Ok, Err, Bool, true, false, refl, sym, subst, arith}
+use Rattle.std.proofs.Common.{◌≡◌, ℕ, ◌≤◌, List, [], ◌∷◌, ◌++◌, length, Some, Bool, true, false, refl, sym, subst, arith}
 use Rattle.std.proofs.lemmas.List.{append-nil}
-use Rattle.std.specs.Prelude.{Result, if◌then◌else◌}
 use Rattle.js_tree.specs.declared.token.Token.{Token}
 use Rattle.js_tree.specs.declared.token.TokenKind.{TokenKind}
 use Rattle.js_tree.specs.declared.token.TokenKind.TheVariants as token
 use Rattle.js_tree.specs.declared.sign.Sign.{Sign}
 use Rattle.js_tree.specs.declared.sign.Sign.TheVariants as sign
-use Rattle.js_grammar.specs.Reading.{◌>>=◌}
 use Rattle.js_grammar.specs.Expressions.{name_in}
 use Rattle.js_grammar.specs.Printing.{printed, sign_token, in_round, comma_if}
 use Rattle.js_law_tokens.specs.BareTokens.{bare_kind}
@@ -62,31 +60,3 @@ semicolon_behind h = ends_with sign.Semicolon refl h
 pub comma_before : {a before rest : List Token} (b : Bool) → Keeps a before rest → Keeps (comma_if b ++ a) before rest
 comma_before true h = with_sign sign.Comma refl h
 comma_before false h = h
-
--- ---- steps that succeed
-
--- what holds of what a step gives, where it succeeds
-pub record Gives {A E : Type 0} (P : A → Type 0) (m : Result A E) : Type 0 where
-  pub given : (x : A) → m ≡ Ok x → P x
-
-pub and_then : {A B E : Type 0} {P : A → Type 0} {Q : B → Type 0} {m : Result A E} (f : A → Result B E) → Gives P m → ((x : A) → P x → Gives Q (f x)) → Gives Q (m >>= f)
-and_then {m = Ok x} f g h = h x (g.given x refl)
-and_then {m = Err e} f g h = record { given = λ y same. cc }
-
-pub gives : {A E : Type 0} {P : A → Type 0} (x : A) → P x → Gives {E = E} P (Ok x)
-gives {P = P} x is = record { given = λ y same. let e : x ≡ y = cc in subst P e is }
-
-pub refuses : {A E : Type 0} {P : A → Type 0} {e : E} → Gives P (Err e)
-refuses = record { given = λ y same. cc }
-
-pub by_test : {A E : Type 0} {P : A → Type 0} {m : Result A E} (e : E) (b : Bool) → Gives P m → Gives P (if b then m else Err e)
-by_test e true g = g
-by_test e false g = refuses
-
--- a weaker thing holds too
-pub so : {A E : Type 0} {P Q : A → Type 0} {m : Result A E} → ((x : A) → P x → Q x) → Gives P m → Gives Q m
-so f g = record { given = λ x e. f x (g.given x e) }
-
--- what a reader read from `before` is printed as `out` says
-abbrev pub Keeping : {A : Type 0} → (A → List Token) → List Token → A × List Token → Type 0
-Keeping out before x = Keeps (out x.0) before x.1

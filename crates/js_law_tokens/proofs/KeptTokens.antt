@@ -12,7 +12,7 @@ use Rattle.js_grammar.specs.Printing.{printed, statement_tokens}
 use Rattle.js_law_tokens.specs.BareTokens.{a_text, bare_kind, bare_tokens}
 use Rattle.js_law_tokens.specs.Laws.{ReadingKeepsTokens, HoldsOfNames, HoldsOfPrinted}
 use Rattle.js_law_tokens.proofs.Keeping.{Keeps, done, kept, named, added, left_out}
-use Rattle.js_law_tokens.proofs.ReadScripts.{script_keeps}
+use Rattle.js_law_tokens.proofs.Nodes.{script_kept}
 
 -- a name is bare as its text
 name_placeless : (k : TokenKind) (x : List ℕ) → name_in k ≡ Some x → bare_kind k ≡ a_text x ∷ []
@@ -30,7 +30,7 @@ keeps_bare {rest = rest} (left_out t out before r e h) = rw (e, keeps_bare h) re
 
 pub reading_keeps : ReadingKeepsTokens
 reading_keeps end room ts body e =
-    sym (keeps_bare ((script_keeps end room ts).given body e) ∙ append-nil (bare_tokens (flat_map statement_tokens body)))
+    sym (keeps_bare (script_kept end room ts body e) ∙ append-nil (bare_tokens (flat_map statement_tokens body)))
 
 module _ (P : TokenKind → Type 0) (holds : HoldsOfNames P) where
   abbrev OfKind : Token → Type 0
@@ -46,4 +46,4 @@ module _ (P : TokenKind → Type 0) (holds : HoldsOfNames P) where
   keeps_holds (left_out t out before r e h) all = keeps_holds h (All-tail OfKind t before all)
 
   pub holds_of_printed : HoldsOfPrinted P
-  holds_of_printed end room ts body e all = keeps_holds ((script_keeps end room ts).given body e) all
+  holds_of_printed end room ts body e all = keeps_holds (script_kept end room ts body e) all

@@ -1,11 +1,8 @@
 pub mod Keeping
 pub mod KeptTokens
 pub mod Lists
+pub mod Nodes
 pub mod Operators
-pub mod ReadExpressions
-pub mod ReadLoops
-pub mod ReadOperators
-pub mod ReadScripts
-pub mod ReadStatements
+pub mod Parts
 pub mod Rows
 pub mod Steps

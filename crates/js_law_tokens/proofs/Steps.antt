@@ -1,19 +1,17 @@
--- What each step of reading takes, and rows of parts.
-use Rattle.std.proofs.Common.{◌≡◌, ℕ, ◌<◌, List, [], ◌∷◌, length, Option, Some, None, Bool, true, false, refl, sym, ap, ◌∙◌, subst, arith}
+-- What each step of reading takes: signs, reserved words and names.
+use Rattle.std.proofs.Common.{◌≡◌, ℕ, ◌<◌, List, [], ◌∷◌, length, Some, Bool, true, false, refl, sym, ap, ◌∙◌, arith}
 use Rattle.std.specs.Prelude.{nat_eq, find, ◌&&◌, if◌then◌else◌}
 use Rattle.std.proofs.lemmas.Bool.Decides.{nat_tests}
-use Rattle.js_tree.specs.declared.place.Place.{Place}
 use Rattle.js_tree.specs.declared.token.Token.{Token}
 use Rattle.js_tree.specs.declared.token.TokenKind.{TokenKind}
 use Rattle.js_tree.specs.declared.token.TokenKind.TheVariants as token
 use Rattle.js_tree.specs.declared.sign.Sign.{Sign}
-use Rattle.js_tree.specs.declared.sign.Sign.TheVariants as sign
 use Rattle.js_tree.specs.declared.keyword.Keyword.{Keyword}
 use Rattle.js_grammar.specs.Words.{same, keyword_spelling, keywords, keyword_of}
-use Rattle.js_grammar.specs.Readers.{rest_of, sign_of, next_sign, keyword_in, next_keyword, is_sign, unbound, taken_if, expect, name, name_by, name_if, any_word, word_by, semicolon, semicolon_by}
-use Rattle.js_grammar.specs.Printing.{printed, sign_token, word_token, keyword_token}
+use Rattle.js_grammar.specs.Readers.{rest_of, sign_of, next_sign, keyword_in, next_keyword}
+use Rattle.js_grammar.specs.Printing.{printed, sign_token, keyword_token}
 use Rattle.js_law_tokens.specs.BareTokens.{bare_kind}
-use Rattle.js_law_tokens.proofs.Keeping.{Keeps, done, kept, left_out, Gives, gives, refuses, so, Keeping}
+use Rattle.js_law_tokens.proofs.Keeping.{Keeps, done, kept, left_out}
 
 -- ---- words that are reserved
 
@@ -74,85 +72,6 @@ pub keyword_taken : (ts : List Token) (k : Keyword) → next_keyword ts ≡ Some
 keyword_taken [] k h = cc
 keyword_taken (t ∷ ts) k h = taken (token.Word (keyword_spelling k)) t ts (keyword_kind t.kind k h)
 
-pub sign_shortens : (ts : List Token) (s : Sign) → next_sign ts ≡ Some s → length (rest_of ts) < length ts
-sign_shortens [] s h = cc
-sign_shortens (t ∷ ts) s h = omega arith
-
 pub keyword_shortens : (ts : List Token) (k : Keyword) → next_keyword ts ≡ Some k → length (rest_of ts) < length ts
 keyword_shortens [] k h = cc
 keyword_shortens (t ∷ ts) k h = omega arith
-
--- ---- signs that must stand somewhere
-
-pub is_the_sign : (s : Sign) (o : Option Sign) → is_sign s o ≡ true → o ≡ Some s
-is_the_sign sign.LeftParenthesis (Some sign.LeftParenthesis) h = refl
-is_the_sign sign.LeftParenthesis _ h = cc
-is_the_sign sign.RightParenthesis (Some sign.RightParenthesis) h = refl
-is_the_sign sign.RightParenthesis _ h = cc
-is_the_sign sign.LeftBrace (Some sign.LeftBrace) h = refl
-is_the_sign sign.LeftBrace _ h = cc
-is_the_sign sign.RightBrace (Some sign.RightBrace) h = refl
-is_the_sign sign.RightBrace _ h = cc
-is_the_sign sign.RightBracket (Some sign.RightBracket) h = refl
-is_the_sign sign.RightBracket _ h = cc
-is_the_sign sign.Colon (Some sign.Colon) h = refl
-is_the_sign sign.Colon _ h = cc
-is_the_sign sign.Semicolon (Some sign.Semicolon) h = refl
-is_the_sign sign.Semicolon _ h = cc
-is_the_sign _ o h = cc
-
-module _ (end : Place) where
-  taken_if_is : (b : Bool) (s : Sign) (ts : List Token) → is_sign s (next_sign ts) ≡ b → Gives (λ rest. (next_sign ts ≡ Some s) × (rest ≡ rest_of ts)) (taken_if end b ts)
-  taken_if_is true s ts e = gives (rest_of ts) (is_the_sign s (next_sign ts) e, refl)
-  taken_if_is false s ts e = refuses
-
-  pub expected : (s : Sign) (ts : List Token) → Gives (λ rest. (next_sign ts ≡ Some s) × (rest ≡ rest_of ts)) (expect end s ts)
-  unfolding expect
-  expected s ts = taken_if_is (is_sign s (next_sign ts)) s ts refl
-
-  pub expect_takes : (s : Sign) (ts : List Token) → Gives (λ rest. Keeps (sign_token s ∷ []) ts rest) (expect end s ts)
-  expect_takes s ts = so (λ rest e. subst (λ more. Keeps (sign_token s ∷ []) ts more) (sym e.1) (sign_taken ts s e.0)) (expected s ts)
-
-  pub expect_skips : (s : Sign) (ts : List Token) → bare_kind (token.Sign s) ≡ [] → Gives (λ rest. Keeps [] ts rest) (expect end s ts)
-  expect_skips s ts f = so (λ rest e. subst (λ more. Keeps [] ts more) (sym e.1) (sign_skipped ts s f e.0)) (expected s ts)
-
-  -- ---- names and words
-
-  name_if_keeps : (o : Option Keyword) (w : List ℕ) (t : Token) (ts : List Token) → t.kind ≡ token.Word w → Gives (Keeping (λ x. word_token x.name ∷ []) (t ∷ ts)) (name_if end o w (t ∷ ts))
-  name_if_keeps None w t ts e = gives (unbound w, ts) (taken (token.Word w) t ts e)
-  name_if_keeps (Some k) w t ts e = refuses
-
-  name_by_keeps : (k : TokenKind) (t : Token) (ts : List Token) → t.kind ≡ k → Gives (Keeping (λ x. word_token x.name ∷ []) (t ∷ ts)) (name_by end k (t ∷ ts))
-  name_by_keeps (token.Word w) t ts e = name_if_keeps (keyword_of w) w t ts e
-  name_by_keeps (token.Number n) t ts e = refuses
-  name_by_keeps (token.Text x) t ts e = refuses
-  name_by_keeps (token.Sign s) t ts e = refuses
-
-  pub name_keeps : (ts : List Token) → Gives (Keeping (λ x. word_token x.name ∷ []) ts) (name end ts)
-  unfolding name
-  name_keeps [] = refuses
-  name_keeps (t ∷ ts) = name_by_keeps t.kind t ts refl
-
-  word_by_keeps : (k : TokenKind) (t : Token) (ts : List Token) → t.kind ≡ k → Gives (Keeping (λ x. word_token x ∷ []) (t ∷ ts)) (word_by end k (t ∷ ts))
-  word_by_keeps (token.Word w) t ts e = gives (w, ts) (taken (token.Word w) t ts e)
-  word_by_keeps (token.Number n) t ts e = refuses
-  word_by_keeps (token.Text x) t ts e = refuses
-  word_by_keeps (token.Sign s) t ts e = refuses
-
-  pub any_word_keeps : (ts : List Token) → Gives (Keeping (λ x. word_token x ∷ []) ts) (any_word end ts)
-  unfolding any_word
-  any_word_keeps [] = refuses
-  any_word_keeps (t ∷ ts) = word_by_keeps t.kind t ts refl
-
-  -- ---- semicolons
-
-  semicolon_by_skips : (o : Option Sign) (b : Bool) (ts : List Token) → next_sign ts ≡ o → Gives (λ rest. Keeps [] ts rest) (semicolon_by end o b ts)
-  semicolon_by_skips (Some sign.Semicolon) b ts e = gives (rest_of ts) (sign_skipped ts sign.Semicolon refl e)
-  semicolon_by_skips (Some sign.RightBrace) b ts e = gives ts (done ts)
-  semicolon_by_skips _ true ts e = gives ts (done ts)
-  semicolon_by_skips _ false ts e = refuses
-
-  pub semicolon_skips : (ts : List Token) → Gives (λ rest. Keeps [] ts rest) (semicolon end ts)
-  unfolding semicolon
-  semicolon_skips [] = gives [] (done [])
-  semicolon_skips (t ∷ ts) = semicolon_by_skips (sign_of t.kind) t.after_line (t ∷ ts) refl

@@ -1,5 +1,5 @@
-use Rattle.js_law_room.proofs.FitScripts.{without_limit-shallow}
+use Rattle.js_law_room.proofs.Room.{no_limit}
 use Rattle.js_law_room.proofs.laws.no_limit_is_met.Goals as goal
 
 pub returns : goal.returns
-returns c = without_limit-shallow
+returns c = no_limit
