@@ -145,6 +145,8 @@ def leaves_nothing_behind(room):
         process.stdin.flush()
         while not os.listdir(room.temporary):
             time.sleep(0.01)
+        # `timeout` sends it twice
+        process.send_signal(number)
         process.send_signal(number)
         process.communicate(timeout=60)
         expect("interrupted", process.returncode, 128 + number)
