@@ -3,11 +3,19 @@ are read by (crates/pac_words/specs/Tables.antt), docs/COMMAND-LINE.md, man/pac.
 
 The values and usual values of the options, and the exit statuses, are compared too: the document with the constants of
 the crates, and the page with the document.
+
+Of `pac-lint`, docs/LINT.md is compared with the code, and man/pac-lint.1 with both: the usage, each exit status with
+what is written then, what a line is, and the lines of the example, which the document has from a sample that
+checks/lint.py runs. Its completion offers files.
 """
 import glob
+import os
 import re
 import subprocess
 import sys
+import tempfile
+
+LINT, LINT_PAGE = "docs/LINT.md", "man/pac-lint.1"
 
 
 def read(name):
@@ -24,9 +32,9 @@ def tables():
     return found
 
 
-def rows(heading):
-    """The rows of the table of docs/COMMAND-LINE.md with this heading, as lists of cells."""
-    lines = read("docs/COMMAND-LINE.md").splitlines()
+def rows(heading, document="docs/COMMAND-LINE.md"):
+    """The rows of the table of a document with this heading, as lists of cells."""
+    lines = read(document).splitlines()
     at = lines.index(heading) + 2
     while lines[at].startswith("| "):
         yield [it.strip() for it in re.split(r"(?<!\\)\|", lines[at])[1:-1]]
@@ -74,15 +82,15 @@ def limits():
     }
 
 
-def section(heading):
-    """The lines of a section of the page of the manual, without the marks of fonts."""
-    text = read("man/pac.1").split(f"\n.SH {heading}\n")[1].split("\n.SH ")[0]
+def section(heading, page="man/pac.1"):
+    """The lines of a section of a page of the manual, without the marks of fonts."""
+    text = read(page).split(f"\n.SH {heading}\n")[1].split("\n.SH ")[0]
     return re.sub(r'^\.(BR|IR|RI|BI|RB|[BI]) |"', "", text, flags=re.M).replace("\\-", "-").splitlines()
 
 
-def entries(heading):
+def entries(heading, page="man/pac.1"):
     """The entries of a section, each as its head and its text."""
-    for entry in "\n".join(section(heading)).split(".TP\n")[1:]:
+    for entry in "\n".join(section(heading, page)).split(".TP\n")[1:]:
         head, _, text = entry.partition("\n")
         yield head, text
 
@@ -97,12 +105,29 @@ def synopsis():
     return found
 
 
-def completed(*words):
-    """What the completion offers for the last of these words behind `pac`, as a sorted list."""
-    show = '. completions/pac.bash; COMP_WORDS=(pac "$@"); COMP_CWORD=$#; _pac; printf "%s\\n" "${COMPREPLY[@]}"'
-    ran = subprocess.run(["bash", "-c", show, "bash", *words], stdout=subprocess.PIPE,
+def completed(*words, program="pac", folder="."):
+    """What its completion offers for the last of these words behind a program's name, as a sorted list."""
+    show = '. "$0"; COMP_WORDS=("$@"); COMP_CWORD=$(($# - 1)); "_${1//-/_}"; printf "%s\\n" "${COMPREPLY[@]}"'
+    file = os.path.abspath(f"completions/{program}.bash")
+    ran = subprocess.run(["bash", "-c", show, file, program, *words], stdout=subprocess.PIPE, cwd=folder,
                          check=True, text=True)
     return sorted(ran.stdout.split())
+
+
+def lint_statuses():
+    """Of each exit status of `pac-lint` its number and name, and its line where it has one of its own, by the code."""
+    code = "".join(map(read, [*glob.glob("crates/pac_lint/src/*.rt"), "crates/pac_plan/src/output.rt"]))
+    lines = {name: "".join(re.findall('"([^"]*)"', texts))
+             for name, texts in re.findall(r"\bline\(alloc, Status::(\w+), (.*)\)", code)}
+    for name, number in re.findall(r"Status::(\w+) => (\d+)", read("crates/pac_plan/src/status.rt")):
+        if f"Status::{name}" in code:
+            yield number, name, lines.get(name)
+
+
+def lint_call():
+    """How `pac-lint` is called, by the line of its usage."""
+    usage = {name: line for _, name, line in lint_statuses()}["Usage"]
+    return usage.removeprefix("usage: ")
 
 
 def check_document(expect):
@@ -146,6 +171,42 @@ def check_completion(expect):
     expect("completion of a zone", completed("map", "--zone", "="), ["UTC"])
 
 
+def check_lint_document(expect):
+    found = [(number, *re.findall("`(.*)`", text)) for number, text in rows("| Status | For |", LINT)]
+    wanted = [(number, *([line] if line else [])) for number, _, line in lint_statuses()]
+    expect(f"{LINT}, statuses and lines", found, wanted)
+    calls = {LINT: f"`{lint_call()}` reads", "docs/COMMAND-LINE.md": f"`./{lint_call()}`",
+             "README.md": f"`./{lint_call()}`"}
+    for document, call in calls.items():
+        expect(f"{document}, {call}", call in read(document), True)
+
+
+def check_lint_page(expect):
+    expect(f"{LINT_PAGE}, synopsis", " ".join(section("SYNOPSIS", LINT_PAGE)), lint_call())
+    names = {number: name for number, name, _ in lint_statuses()}
+    found = [f"{head} {' '.join(text.split())}" for head, text in entries("EXIT STATUS", LINT_PAGE)]
+    wanted = [f"{number} {names.get(number)}: {text}.".replace("`", "")
+              for number, text in rows("| Status | For |", LINT)]
+    expect(f"{LINT_PAGE}, statuses", found, wanted)
+    form = "LINE:COLUMN: NAME: ADVICE"
+    expect("what a line is", [f"`{form}`" in read(LINT), form in section("OUTPUT", LINT_PAGE)], [True, True])
+    expect(f"{LINT_PAGE}, length of a file", f"{constant('LONGEST_FILE'):,} bytes" in read(LINT_PAGE), True)
+    shown = [line for line in section("EXAMPLES", LINT_PAGE) if re.match(r"\d+:\d+: ", line)]
+    there = re.findall("^  - `(.*)`$", read(LINT), re.M)
+    expect(f"{LINT_PAGE}, lines of the example", shown, [line for line in there if line in shown] or ["some"])
+
+
+def check_lint_completion(expect):
+    found = completed("examples/company.n", program="pac-lint")
+    expect("completion of pac-lint's file", found, ["examples/company.names"])
+    expect("completion of its second word", completed("examples/direct.pac", "", program="pac-lint"), [])
+    with tempfile.TemporaryDirectory() as folder:
+        for name in ["-n", "n"]:
+            open(os.path.join(folder, name), "w", encoding="utf-8").close()
+        for word, names in [("", ["n"]), ("-", [])]:
+            expect(f"completion of {word!r}", completed(word, program="pac-lint", folder=folder), names)
+
+
 def main():
     failures = []
 
@@ -153,11 +214,13 @@ def main():
         if found != wanted:
             failures.append(f"{what}: {found!r} in place of {wanted!r}")
 
-    for check in [check_document, check_page, check_completion]:
+    for check in [check_document, check_page, check_completion,
+                  check_lint_document, check_lint_page, check_lint_completion]:
         check(expect)
     for failure in failures:
         print(f"checks: {failure}")
-    print("checks of options:", f"{len(failures)} failed" if failures else f"passed, {len(tables())} commands")
+    passed = f"passed, {len(tables())} commands and pac-lint"
+    print("checks of options:", f"{len(failures)} failed" if failures else passed)
     return 1 if failures else 0
 
 

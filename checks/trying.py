@@ -1,7 +1,8 @@
 """Checks `./try` and `checks/edits` without a proof: on copies of them beside crates of their own, with an own `rt`.
 
-That `rt try` compiles nothing. It writes the words that the program would get, and for the name of a file that was
-handed to it the file's text in brackets. That `rt must-fail` says what a file tells it to.
+That `rt try` compiles nothing. It writes the crate in which it is called and the words that the program would get, and
+for the name of a file that was handed to it the file's text in brackets. That `rt must-fail` says what a file tells it
+to.
 """
 import os
 import shutil
@@ -28,6 +29,7 @@ if os.path.exists(f"{room}/fails"):
     sys.exit("error: the crate is wrong")
 at = words.index("--")
 handed = dict(words[it + 1].split("=", 1) for it in range(at) if words[it] == "--data")
+print(os.path.basename(os.getcwd()))
 for word in words[at + 1:]:
     option, joined, value = word.partition("=")
     if word in handed:
@@ -48,7 +50,8 @@ class Copy:
 
     def __enter__(self):
         self.room = tempfile.mkdtemp()
-        for name in ["bin", "temporary", "here/a b", "here/c=d", "top/checks", "top/crates/pac_main/src"]:
+        for name in ["bin", "temporary", "here/a b", "here/c=d", "top/checks", "top/crates/pac_main/src",
+                     "top/crates/pac_lint"]:
             os.makedirs(self.path(name))
         shutil.copy("try", self.path("top"))
         shutil.copy("checks/edits", self.path("top/checks"))
@@ -88,10 +91,10 @@ class Copy:
         return out, errors, process.returncode
 
 
-def expect_words(copy, words, wanted, **how):
-    """The program gets these words, and all that is written to standard output is its own."""
+def expect_words(copy, words, wanted, crate="pac_main", **how):
+    """The program of this crate gets these words, and all that is written to standard output is its own."""
     out, errors, status = copy.call("top/try", *words, **how)
-    expect(words, (out.splitlines(), status), (wanted, 7))
+    expect(words, (out.splitlines(), status), ([crate, *wanted], 7))
     expect(f"{words}: word of it", errors.startswith("try: nothing is proved in this run"), True)
 
 
@@ -130,6 +133,10 @@ def takes_no_word_for_what_it_hands_on(copy):
 def reads_pipes(copy):
     with open(copy.path("here/s.pac"), encoding="utf-8") as file:
         expect_words(copy, ["check", "/dev/stdin"], ["check", SCRIPT], stdin=file)
+
+
+def runs_pac_lint(copy):
+    expect_words(copy, ["pac-lint", "a b/same", "-n"], ["[text of a b/same]", "-n"], crate="pac_lint")
 
 
 def says_what_fails(copy):
@@ -197,6 +204,7 @@ CHECKS = [
     leaves_other_words_alone,
     takes_no_word_for_what_it_hands_on,
     reads_pipes,
+    runs_pac_lint,
     says_what_fails,
     leaves_nothing_behind,
     counts_refused_edits,

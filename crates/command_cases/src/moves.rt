@@ -7,11 +7,12 @@ use std::alloc::Global;
 /// How moves are written.
 #[derive(Clone, Copy)]
 pub(crate) enum Form {
-    /// `first:NAME/NUMBER` or `second:NAME/NUMBER` for a question, by its server, and `first:other` or `second:other`
-    /// for what is none, `given`, and `tick`, each behind a blank; behind those that come more than once in a row stands
-    /// `*` and their count.
+    /// `first:NAME/NUMBER` or `second:NAME/NUMBER` for a question, by its server, `frame:NAME/NUMBER` for one with its
+    /// length before it over the stream, and `broken:NAME/NUMBER` where that ended at it, each with `other` for what is
+    /// none; `given`, `tick`, `piece:N` for so many octets of the stream, and `end` for its end. Each stands behind a
+    /// blank; behind those that come more than once in a row stands `*` and their count.
     Questions,
-    /// `first`, `second`, `given` and `tick`, each with how often it comes in a row, and each before a blank.
+    /// The same without names, numbers and lengths, each with how often it comes in a row, and each before a blank.
     Kinds,
 }
 
@@ -34,23 +35,40 @@ pub(crate) fn written(alloc: Global, form: Form, moves: &MoveList) -> Result<Str
 
 fn word_of(alloc: Global, form: Form, made: &Move) -> Result<String> {
     match made {
-        Move::Sent(to, octets) => sent(alloc, form, *to, octets.as_slice()),
+        Move::Sent(Which::First, octets) => asked(alloc, form, "first", octets.as_slice()),
+        Move::Sent(Which::Second, octets) => asked(alloc, form, "second", octets.as_slice()),
         Move::Given(_) => Ok(String::from_str(alloc, "given")?),
         Move::Tick => Ok(String::from_str(alloc, "tick")?),
+        Move::StreamSent(octets) => asked(alloc, form, "frame", unframed(octets.as_slice())),
+        Move::StreamFailed(octets) => asked(alloc, form, "broken", unframed(octets.as_slice())),
+        Move::Piece(octets) => piece(alloc, form, octets.as_slice().len()),
+        Move::StreamEnd => Ok(String::from_str(alloc, "end")?),
     }
 }
 
-fn sent(alloc: Global, form: Form, to: Which, octets: &[u8]) -> Result<String> {
-    let server = match to {
-        Which::First => "first",
-        Which::Second => "second",
-    };
+fn asked(alloc: Global, form: Form, how: &str, octets: &[u8]) -> Result<String> {
     match form {
-        Form::Kinds => Ok(String::from_str(alloc, server)?),
+        Form::Kinds => Ok(String::from_str(alloc, how)?),
         Form::Questions => match question_in(alloc, octets)? {
-            Some(question) => Ok(format!(in alloc; "{server}:{question}")?),
-            None => Ok(format!(in alloc; "{server}:other")?),
+            Some(question) => Ok(format!(in alloc; "{how}:{question}")?),
+            None => Ok(format!(in alloc; "{how}:other")?),
         },
+    }
+}
+
+fn piece(alloc: Global, form: Form, length: usize) -> Result<String> {
+    match form {
+        Form::Kinds => Ok(String::from_str(alloc, "piece")?),
+        Form::Questions => Ok(format!(in alloc; "piece:{length}")?),
+    }
+}
+
+// The message of a frame; nothing where its length is another one.
+fn unframed(frame: &[u8]) -> &[u8] {
+    match frame {
+        [high, low, message @ ..]
+            if usize::from(u16::from_be_bytes([*high, *low])) == message.len() => { message }
+        _ => &[],
     }
 }
 

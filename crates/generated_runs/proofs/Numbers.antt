@@ -7,6 +7,7 @@ use Rattle.pac_ports.specs.Faults.{last_count, raised}
 use Rattle.pac_ports.specs.declared.link.Move.{Move}
 use Rattle.pac_ports.specs.declared.link.Move.TheVariants as move
 use Rattle.poll_log.specs.declared.question.Question.{Question}
+use Rattle.poll_log.specs.Flat.{flat, flat_behind, frames_behind}
 use Rattle.poll_log.specs.Turns.{Outgoing, Turns, Begin, Then, turns_of, with_move, with_moves}
 use Rattle.poll_log.specs.Questions.{asked_by, asked_in, drawn, firsts, has_name, new_among, onto_unless}
 use Rattle.poll_loop.specs.Numbers.{GaveAll}
@@ -52,6 +53,10 @@ move_few (Begin sent) (move.Sent to octets) = let all = length-append sent (reco
 move_few (Then before event sent) (move.Sent to octets) = let all = length-append sent (record { to = to; octets = octets } ∷ []) in omega (arith, all)
 move_few turns (move.Given octets) = omega arith
 move_few turns move.Tick = omega arith
+move_few turns (move.StreamSent octets) = omega arith
+move_few turns (move.StreamFailed octets) = omega arith
+move_few turns (move.Piece octets) = omega arith
+move_few turns move.StreamEnd = omega arith
 
 moves_few : (turns : Turns) (moves : List Move) → sent_count (with_moves turns moves) ≤ sent_count turns + length moves
 unfolding with_moves
@@ -61,11 +66,24 @@ moves_few turns (m ∷ moves) =
     let one = move_few turns m in
     omega (arith, rest, one)
 
+-- as if all had come as datagrams there are no more moves
+flat_few : (rest : List ℕ) (moves : List Move) → length (flat_behind rest moves) ≤ length moves
+unfolding flat_behind
+flat_few rest [] = omega arith
+flat_few rest (move.Sent to octets ∷ moves) = let few = flat_few rest moves in omega (arith, few)
+flat_few rest (move.Given octets ∷ moves) = let few = flat_few rest moves in omega (arith, few)
+flat_few rest (move.Tick ∷ moves) = let few = flat_few rest moves in omega (arith, few)
+flat_few rest (move.StreamSent octets ∷ moves) = let few = flat_few rest moves in omega (arith, few)
+flat_few rest (move.StreamFailed octets ∷ moves) = let few = flat_few [] moves in omega (arith, few)
+flat_few rest (move.Piece octets ∷ moves) = let few = flat_few (frames_behind rest octets).rest moves in omega (arith, few)
+flat_few rest (move.StreamEnd ∷ moves) = let few = flat_few [] moves in omega (arith, few)
+
 pub names_few : (log : List Move) → length (firsts (turns_of log)) ≤ length log
 names_few log =
     let one = firsts_few (turns_of log) in
-    let two = moves_few (Begin []) log in
-    omega (arith, one, two)
+    let two = moves_few (Begin []) (flat log) in
+    let three = flat_few [] log in
+    omega (arith, one, two, three)
 
 -- ---- numbers of dice
 

@@ -10,6 +10,7 @@ use Rattle.poll_log.specs.declared.question.Question.{Question}
 use Rattle.poll_log.specs.Turns.{turns_of}
 use Rattle.poll_log.specs.Questions.{drawn, firsts}
 use Rattle.poll_log.specs.Jobs.{IsCut, SendsOwed}
+use Rattle.poll_log.specs.Streamed.{IsStreamed}
 use Rattle.pac_plan.specs.Plan.{End, Outside, whole, faulted, unfinished}
 use Rattle.poll_loop.specs.Task.{IsSound, Talk}
 use Rattle.poll_loop.specs.Talks as loop
@@ -20,6 +21,7 @@ use Rattle.pac_generate.specs.MapLink.{MapLinkState, link_of, new_map_link}
 use Rattle.memory_talk.specs.Numbers.{counted, first_numbers}
 use Rattle.memory_talk.specs.Talks.{Talked}
 use Rattle.memory_talk.proofs.Dealt.{dealt}
+use Rattle.memory_talk.proofs.Streams.{none_owed, streamed_none}
 
 -- ---- the link told the log
 
@@ -74,6 +76,7 @@ answered_whole talk answers inner inner' o log l n t new now answered first last
             (dealt (drawn (turns_of log)) inner.dice inner'.dice n first last low t.ends.drew).1
             ∙ ap first_numbers (names_counted talk inner inner' log n t first last low);
       };
+      streamed = t.ends.streamed;
       ran = ap (λ (runs : ℕ). let x : Outside = record o { runs = runs } in x) (ran_there talk inner inner' o log t.ends.ran same);
     }
 
@@ -86,6 +89,17 @@ cut_at talk inner inner' whole log t sound =
     }
 cut_at talk inner inner' faulted log t sound = t.ends.cut
 cut_at talk inner inner' unfinished log t sound = memory_cut talk inner log inner' sound t
+
+-- no frame is owed
+streamed_at : (talk : Talk) (answers : AnswerMap) (inner inner' : Outside) (end : End) (log : List Move) → loop.Talked talk inner end log inner' → IsAnswered answers (turns_of log)
+    → IsStreamed talk.task.terms None log
+streamed_at talk answers inner inner' whole log t answered = t.ends.streamed
+streamed_at talk answers inner inner' faulted log t answered = none_owed answers talk.task.terms t.ends.owed log t.ends.streamed answered
+streamed_at talk answers inner inner' unfinished log t answered = go t.ends
+  where
+    go : loop.Ends talk inner unfinished log inner' → IsStreamed talk.task.terms None log
+    go (inl ends) = none_owed answers talk.task.terms ends.owed log ends.streamed answered
+    go (inr ends) = subst (IsStreamed talk.task.terms None) (sym ends.empty) (streamed_none talk.task.terms)
 
 few_runs : (talk : Talk) (inner inner' o : Outside) (end : End) (log : List Move) → loop.Talked talk inner end log inner' → o.runs ≡ inner.runs → inner'.runs ≤ o.runs + talk.task.runs (turns_of log)
 few_runs talk inner inner' o whole log t same = let ran = t.ends.ran in omega (arith, ran, same)
@@ -100,9 +114,11 @@ pub answered_early : (talk : Talk) (answers : AnswerMap) (inner inner' o : Outsi
     → inner.link ≡ link_of new_map_link → inner'.link ≡ link_of l → IsAnswered answers (turns_of l.log) → o.runs ≡ inner.runs
     → Talked (record { answers = answers; task = talk.task }) o unfinished log (record o { runs = inner'.runs })
 answered_early talk answers inner inner' o end log l t new now answered same =
+    let here = subst (λ (moves : List Move). IsAnswered answers (turns_of moves)) (same_log talk inner inner' end log l t new now) answered in
     record {
       cut = cut_at talk inner inner' end log t;
-      answered = subst (λ (moves : List Move). IsAnswered answers (turns_of moves)) (same_log talk inner inner' end log l t new now) answered;
+      answered = here;
+      streamed = streamed_at talk answers inner inner' end log t here;
       kept = refl;
       ran = few_runs talk inner inner' o end log t same;
     }

@@ -8,7 +8,7 @@ use Rattle.js_host.specs.Answers.{AnswerMap}
 use Rattle.pac_ports.specs.declared.link.Move.{Move}
 use Rattle.poll_log.specs.declared.question.Question.{Question}
 use Rattle.poll_log.specs.declared.terms.Terms.{Terms}
-use Rattle.poll_log.specs.Turns.{Outgoing, Turns, Begin, Then, Event, turns_of}
+use Rattle.poll_log.specs.Turns.{Outgoing, Turns, Begin, Then, Event}
 use Rattle.poll_log.specs.Sendings.{server_of}
 use Rattle.poll_log.specs.Questions.{IsQuestion, asked_in, drawn, firsts, names_of, new_among, outgoing, outgoing_from, questions, times}
 use Rattle.poll_log.specs.Told.{Map}
@@ -19,11 +19,12 @@ use Rattle.poll_log.proofs.Dues.{all_proper, firsts_next, firsts_of_begin, first
 use Rattle.poll_log.proofs.Names.{AllNew, AllSeen, cons_parts, new_among-new, true_false}
 use Rattle.poll_log.proofs.Outgoing.{outgoing_from-append}
 use Rattle.poll_log.proofs.TurnLaws.{falls_at, firsts-begin, firsts-then, told_by_event}
-use Rattle.poll_loop.specs.Events.{move_of, sent_move}
+use Rattle.poll_log.specs.Rounds.{sent_move}
 use Rattle.pac_generate.specs.Answered.{IsAnswered, due_reply, event_by}
 use Rattle.memory_talk.specs.Numbers.{first_numbers}
 use Rattle.memory_talk.specs.Laws.{CutIsFront, IsLogOf}
-use Rattle.memory_talk.proofs.Same.{AreNumbered, IsBefore, IsSoFar, came, compared, ids_of, moves_back, moves_of, numbered_front, repeats_fall, repeats_none, same_fresh, so_far, so_far_of, told_none, waited}
+use Rattle.memory_talk.proofs.Moves.{move_of, moves_of, turns_longer}
+use Rattle.memory_talk.proofs.Same.{AreNumbered, IsBefore, IsSoFar, came, compared, ids_of, numbered_front, repeats_fall, repeats_none, same_fresh, so_far, so_far_of, told_none, waited}
 
 -- ---- lists in parts
 
@@ -223,7 +224,6 @@ module _ (answers : AnswerMap) (t : Terms) (jobs : List Job) (w : 0 < t.wait) (r
 
 pub cut_is_front : CutIsFront
 cut_is_front answers t jobs cut whole w r c log =
-    let h : Turns = turns_of cut in
-    let numbered : AreNumbered (drawn h) = c.in_memory.numbered ∙ ap first_numbers (sym (length-map (firsts h) (λ (q : Question). q.id))) in
-    let b = front answers t jobs w r h (turns_of whole) c.cut c.in_memory.answered numbered log in
-    (b.0, sym (moves_back (Begin []) whole) ∙ b.1 ∙ ap (λ (l : List Move). l ++ b.0) (moves_back (Begin []) cut))
+    let numbered : AreNumbered (drawn cut) = c.in_memory.numbered ∙ ap first_numbers (sym (length-map (firsts cut) (λ (q : Question). q.id))) in
+    let b = front answers t jobs w r cut whole c.cut c.in_memory.answered numbered log in
+    turns_longer cut whole b.0 b.1

@@ -1,11 +1,14 @@
 pub mod Dealt
+mod Given
+pub mod Unframed
+mod Streams
 pub mod Kept
 pub mod Answering
 pub mod Ends
-mod Given
 pub mod Told
 pub mod Agreeing
 pub mod Addresses
+mod Moves
 pub mod Same
 mod Few
 mod Lacking

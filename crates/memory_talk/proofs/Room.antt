@@ -1,23 +1,28 @@
 -- The link has room for all moves of a log where names are few.
-use Rattle.std.proofs.Common.{◌≡◌, ℕ, suc, ◌+◌, true, List, [], ◌∷◌, ◌++◌, length, refl, sym, ◌∙◌, ap, arith}
+use Rattle.std.proofs.Common.{◌≡◌, ℕ, suc, ◌+◌, true, List, [], ◌∷◌, ◌++◌, length, map, Option, refl, sym, ◌∙◌, ap, subst, arith}
 use Rattle.std.specs.List.{list_any}
-use Rattle.std.proofs.lemmas.List.{append-nil, length-append, length-map, length_push}
+use Rattle.std.proofs.lemmas.List.{length-append, length-map, length_push}
 use Rattle.std.proofs.lemmas.List.Elements.{All-nil}
+use Rattle.js_host.specs.Answers.{AnswerMap}
 use Rattle.pac_ports.specs.declared.link.Move.{Move}
-use Rattle.pac_ports.specs.declared.link.Move.TheVariants as move
 use Rattle.poll_log.specs.declared.question.Question.{Question}
 use Rattle.poll_log.specs.declared.terms.Terms.{Terms}
-use Rattle.poll_log.specs.Turns.{Outgoing, Turns, Begin, Then, Given, Tick, sends, turns_of, with_move, with_moves, with_sent}
+use Rattle.poll_log.specs.Turns.{Outgoing, Turns, Begin, Then, sends, turns_of, with_sent}
 use Rattle.poll_log.specs.Questions.{IsQuestion, asked_in, firsts, outgoing_from, questions}
 use Rattle.poll_log.specs.Told.{Map, is_dead, told}
 use Rattle.poll_log.specs.Jobs.{IsOwed, Job, SendsOwed, WaitsBefore, waits_unless}
+use Rattle.poll_log.specs.Rounds.{Framing, Opening, Round, Rounds, arrival_move, event_at, framing_moves, moves_of, sent_move, turns_in, unfinished}
+use Rattle.poll_log.specs.Streamed.{IsStreamed}
 use Rattle.poll_log.proofs.Dues.{asked_now, firsts_proper}
+use Rattle.poll_log.proofs.Rounds.{turns_of_rounds}
 use Rattle.poll_log.proofs.TurnLaws.{questions-begin, questions-then}
+use Rattle.pac_generate.specs.Answered.{IsAnswered}
 use Rattle.pac_generate.proofs.LogLaws.{answered_sent}
-use Rattle.memory_talk.specs.Laws.{LinkHasRoom, SoundJobsAskFew, events_of, reply_event}
+use Rattle.memory_talk.specs.Laws.{AreUnframed, LinkHasRoom, SoundJobsAskFew, events_of, reply_event}
 use Rattle.memory_talk.proofs.Few.{all_sent, few_names}
 use Rattle.memory_talk.proofs.Prompt.{awaited, next_due}
 use Rattle.memory_talk.proofs.Replied.{laws, prompt, room}
+use Rattle.memory_talk.proofs.Unframed.{none_sent}
 
 pub sound_few : SoundJobsAskFew
 sound_few task sound low waits =
@@ -33,38 +38,24 @@ sound_few task sound low waits =
 abbrev size : Turns → ℕ
 size h = length (sends h) + length (events_of h)
 
-size_more : (h : Turns) (m : Move) → size (with_move h m) ≡ size h + 1
-unfolding sends events_of
-size_more (Begin sent) (move.Sent to octets) =
-    let d : Outgoing = record { to = to; octets = octets } in
-    let long = length_push sent d in
-    omega (arith, long)
-size_more (Then before event sent) (move.Sent to octets) =
-    let d : Outgoing = record { to = to; octets = octets } in
-    let long = length_push sent d in
-    let old = length-append (sends before) sent in
-    let new = length-append (sends before) (sent ++ d ∷ []) in
-    omega (arith, long, old, new)
-size_more h (move.Given octets) =
-    let same : length (sends h ++ []) ≡ length (sends h) = ap length (append-nil (sends h)) in
-    let long = length_push (events_of h) (Given octets) in
-    omega (arith, same, long)
-size_more h move.Tick =
-    let same : length (sends h ++ []) ≡ length (sends h) = ap length (append-nil (sends h)) in
-    let long = length_push (events_of h) Tick in
-    omega (arith, same, long)
+size_rounds : (rounds : Rounds) → AreUnframed rounds → size (turns_in rounds) ≡ length (moves_of rounds)
+unfolding moves_of turns_in AreUnframed sends events_of
+size_rounds (Opening sent) none = let long = length-map sent sent_move in omega (arith, long)
+size_rounds (Round before arrival sent framing) none =
+    let rest = size_rounds before none.0 in
+    let framed : length (framing_moves framing) ≡ 0 = ap (λ (f : Option Framing). length (framing_moves f)) none.1 in
+    let long = length-map sent sent_move in
+    let behind = length-append (map sent_move sent) (framing_moves framing) in
+    let moves = length-append (moves_of before) (arrival_move arrival ∷ (map sent_move sent ++ framing_moves framing)) in
+    let sendings = length-append (sends (turns_in before)) sent in
+    let came = length_push (events_of (turns_in before)) (event_at (unfinished before) arrival) in
+    omega (arith, rest, framed, long, behind, moves, sendings, came)
 
-sizes : (h : Turns) (moves : List Move) → size (with_moves h moves) ≡ size h + length moves
-unfolding with_moves
-sizes h [] = omega arith
-sizes h (m ∷ moves) =
-    let one = size_more h m in
-    let rest = sizes (with_move h m) moves in
-    omega (arith, one, rest)
-
-size_of : (log : List Move) → size (turns_of log) ≡ length log
-unfolding sends events_of
-size_of log = let all = sizes (Begin []) log in omega (arith, all)
+size_of : (answers : AnswerMap) (t : Terms) (owed : Option Question) (log : List Move) → IsStreamed t owed log → IsAnswered answers (turns_of log) → size (turns_of log) ≡ length log
+size_of answers t owed log s answered =
+    let turns : turns_of log ≡ turns_in s.rounds = ap turns_of (sym s.moves) ∙ turns_of_rounds s.rounds in
+    let none = none_sent answers t owed s.rounds (subst (IsAnswered answers) turns answered) s.framed in
+    ap size turns ∙ size_rounds s.rounds none.0 ∙ ap length s.moves
 
 -- so many questions are so many datagrams
 length_out : (earlier qs : List Question) → length (outgoing_from earlier qs) ≡ length qs
@@ -108,7 +99,7 @@ size_sent (Then h e sent) more =
     omega (arith, all, old, new)
 
 pub has_room : LinkHasRoom
-has_room most answers t jobs log small few cut answered waits =
+has_room most answers t jobs owed log small few streamed cut answered waits =
     let h : Turns = turns_of log in
     let whole : Turns = with_sent h cut.unsent in
     let p = prompt most answers small t jobs few whole cut.sends (waits_sent t jobs h cut.unsent cut.waits) (answered_sent answers h cut.unsent answered) in
@@ -120,6 +111,6 @@ has_room most answers t jobs log small few cut answered waits =
     let asked : length (sends whole) ≡ length (firsts whole) = sends_ask t jobs whole cut.sends ∙ ap length (p.once ∙ sym p.names) in
     let came : length (events_of whole) ≡ length p.done = ap length p.came ∙ length-map p.done (reply_event answers) in
     let all = few.answered in
-    let log_size = size_of log in
+    let log_size = size_of answers t owed log streamed answered in
     let whole_size = size_sent h cut.unsent in
     omega (arith, one, named, asked, came, all, log_size, whole_size)

@@ -4,18 +4,15 @@ use Rattle.std.specs.List.{filter}
 use Rattle.std.proofs.lemmas.List.{append_cancel_left, append-nil, append_assoc, length-append, length-map, map-append, take_at}
 use Rattle.std.proofs.lemmas.List.Elements.{All-nil}
 use Rattle.js_host.specs.Answers.{AnswerMap}
-use Rattle.pac_ports.specs.declared.link.Move.{Move}
-use Rattle.pac_ports.specs.declared.link.Move.TheVariants as move
 use Rattle.poll_log.specs.declared.question.Question.{Question}
 use Rattle.poll_log.specs.declared.terms.Terms.{Terms}
-use Rattle.poll_log.specs.Turns.{Outgoing, Turns, Begin, Then, Event, turns_of, with_move, with_moves}
+use Rattle.poll_log.specs.Turns.{Outgoing, Turns, Begin, Then, Event}
 use Rattle.poll_log.specs.Questions.{drawn, firsts, has_name, names_of, outgoing_from, questions}
 use Rattle.poll_log.specs.Told.{Map, due_sends, told}
 use Rattle.poll_log.specs.Jobs.{IsOwed, Job, SendsOwed, WaitsBefore, once, some_wait, wanted}
 use Rattle.poll_log.proofs.Dues.{again_are, firsts_next, firsts_of_begin, firsts_proper, fresh_new, sent_as_due}
 use Rattle.poll_log.proofs.Names.{cons_parts, true_false}
 use Rattle.poll_log.proofs.TurnLaws.{due_begin, due_next, due_unsent, falls_at, told_by_event}
-use Rattle.poll_loop.specs.Events.{move_of, sent_move}
 use Rattle.pac_generate.specs.Answered.{IsAnswered, due_reply, event_by}
 use Rattle.memory_talk.specs.Numbers.{first_numbers, number_after}
 use Rattle.memory_talk.specs.Laws.{IsLogOf, OneLog}
@@ -211,26 +208,5 @@ module _ (answers : AnswerMap) (t : Terms) (jobs : List Job) (w : 0 < t.wait) (r
       go (inr (inl b)) = true_false (sym (waited t jobs one other b q.polled.waits) ∙ p.polled.ended)
       go (inr (inr b)) = true_false (sym (waited t jobs other one b p.polled.waits) ∙ q.polled.ended)
 
--- ---- from turns to moves
-
-abbrev pub moves_of : Turns → List Move
-moves_of (Begin sent) = map sent_move sent
-moves_of (Then before e sent) = moves_of before ++ move_of e ∷ map sent_move sent
-
-moves_more : (h : Turns) (m : Move) → moves_of (with_move h m) ≡ moves_of h ++ m ∷ []
-moves_more (Begin sent) (move.Sent to octets) = map-append sent_move sent (record { to = to; octets = octets } ∷ [])
-moves_more (Then h e sent) (move.Sent to octets) =
-    let d : Outgoing = record { to = to; octets = octets } in
-    ap (λ (l : List Move). moves_of h ++ move_of e ∷ l) (map-append sent_move sent (d ∷ []))
-    ∙ sym (append_assoc (moves_of h) (move_of e ∷ map sent_move sent) (sent_move d ∷ []))
-moves_more h (move.Given octets) = refl
-moves_more h move.Tick = refl
-
-pub moves_back : (h : Turns) (ms : List Move) → moves_of (with_moves h ms) ≡ moves_of h ++ ms
-unfolding with_moves
-moves_back h [] = sym (append-nil (moves_of h))
-moves_back h (m ∷ ms) = moves_back (with_move h m) ms ∙ ap (λ (l : List Move). l ++ ms) (moves_more h m) ∙ append_assoc (moves_of h) (m ∷ []) ms
-
 pub one_log : OneLog
-one_log answers t jobs one other w r p q =
-    sym (moves_back (Begin []) one) ∙ ap moves_of (same_turns answers t jobs w r (turns_of one) (turns_of other) p q) ∙ moves_back (Begin []) other
+one_log answers t jobs one other w r p q = same_turns answers t jobs w r one other p q

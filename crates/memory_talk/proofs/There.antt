@@ -9,7 +9,7 @@ use Rattle.poll_log.specs.declared.question.Question.{Question}
 use Rattle.poll_log.specs.declared.terms.TheConstants.{FLOOD}
 use Rattle.poll_log.specs.declared.terms.Terms.{Terms}
 use Rattle.poll_log.specs.Sendings.{limit}
-use Rattle.poll_log.specs.Turns.{Outgoing, Turns, Begin, Then, Event, turns_of}
+use Rattle.poll_log.specs.Turns.{Outgoing, Turns, Begin, Then, Event}
 use Rattle.poll_log.specs.Beats.{events}
 use Rattle.poll_log.specs.Questions.{IsQuestion, asked_in, drawn, first_sent, firsts, has_name, names_of, new_among, outgoing_from, questions}
 use Rattle.poll_log.specs.Told.{Map, due_sends, told}
@@ -24,12 +24,12 @@ use Rattle.poll_log.proofs.Names.{AllNew, AllSeen, new_among-new, new_from-once}
 use Rattle.poll_log.proofs.Outgoing.{new_to_first}
 use Rattle.poll_log.proofs.TurnLaws.{due_next, due_unsent, falls_at, firsts-begin, firsts-then, told_by_event}
 use Rattle.poll_loop.specs.Task.{AsksLookupNames}
-use Rattle.poll_loop.proofs.Logs.{turns_begin, turns_more}
 use Rattle.poll_loop.proofs.Owing.{Named, once_named, wanted_named}
 use Rattle.pac_generate.specs.Answered.{IsAnswered, due_reply, event_by}
 use Rattle.memory_talk.specs.Numbers.{first_numbers, number_after}
 use Rattle.memory_talk.specs.Laws.{IsLogOf, LogIsThere}
-use Rattle.memory_talk.proofs.Same.{AreNumbered, IsSoFar, ids_of, length_numbers, moves_of, told_none}
+use Rattle.memory_talk.proofs.Moves.{moves_of, turns_back}
+use Rattle.memory_talk.proofs.Same.{AreNumbered, IsSoFar, ids_of, length_numbers, told_none}
 
 -- ---- questions under the next numbers
 
@@ -177,12 +177,6 @@ module _ (answers : AnswerMap) (t : Terms) (jobs : List Job) (w : 0 < t.wait) (r
       go : (b : Bool) → some_wait t jobs o.turns ≡ b → (some_wait t jobs o.turns ≡ true → (whole : Turns) × IsLogOf answers t jobs whole) → (whole : Turns) × IsLogOf answers t jobs whole
       go true e later = later e
       go false e later = ended count o e
-
--- ---- from turns to moves
-
-turns_back : (h : Turns) → turns_of (moves_of h) ≡ h
-turns_back (Begin sent) = turns_begin sent
-turns_back (Then h e sent) = turns_more (moves_of h) e sent ∙ ap (λ (x : Turns). Then x e sent) (turns_back h)
 
 pub log_is_there : LogIsThere
 log_is_there answers task sound =

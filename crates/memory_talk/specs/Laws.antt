@@ -1,6 +1,6 @@
 -- What a log that is answered from a map tells: the answers of the map, and so the runs against it. Where names are few each
--- question has its reply.
-use Rattle.std.specs.Prelude.{◌≡◌, ℕ, ◌*◌, ◌<◌, ◌≤◌, ◌^◌, List, [], ◌∷◌, ◌++◌, length, map, Some, true}
+-- question has its reply. None goes over a stream.
+use Rattle.std.specs.Prelude.{◌≡◌, ℕ, ◌*◌, ◌<◌, ◌≤◌, ◌^◌, List, [], ◌∷◌, ◌++◌, length, map, Option, Some, None, true}
 use Rattle.std.specs.List.{All}
 use Rattle.std.specs.FinMap as map
 use Rattle.pac_names.specs.declared.answer.Answer.{Answer}
@@ -14,11 +14,13 @@ use Rattle.run_trees.specs.WholeRun.{whole_run}
 use Rattle.poll_log.specs.declared.question.Question.{Question}
 use Rattle.poll_log.specs.declared.terms.Terms.{Terms}
 use Rattle.poll_log.specs.declared.terms.TheConstants.{FLOOD}
-use Rattle.poll_log.specs.Turns.{Turns, Begin, Then, Event, Given, turns_of}
+use Rattle.poll_log.specs.Turns.{Turns, Begin, Then, Event, Given, turns_of, with_moves}
 use Rattle.poll_log.specs.Questions.{firsts, questions}
 use Rattle.poll_log.specs.Told.{told}
 use Rattle.poll_log.specs.Jobs.{IsCut, IsFinished, IsPolled, Job, some_wait}
 use Rattle.poll_log.specs.Laws.{IsAllTold, IsRestartable}
+use Rattle.poll_log.specs.Rounds.{Rounds, Opening, Round, turns_in}
+use Rattle.poll_log.specs.Streamed.{AreFramed, IsStreamed, framed}
 use Rattle.poll_loop.specs.Task.{IsSound, Task}
 use Rattle.session_log.specs.Asked.{job_of}
 use Rattle.session_log.specs.Sessions.{IsWhole, all_runs}
@@ -55,8 +57,8 @@ pub record IsLogOf (answers : AnswerMap) (terms : Terms) (jobs : List Job) (turn
 -- there is at most one
 abbrev pub OneLog : Type 0
 OneLog =
-    (answers : AnswerMap) (terms : Terms) (jobs : List Job) (one other : List Move) → 0 < terms.wait → 0 < terms.tries
-    → IsLogOf answers terms jobs (turns_of one) → IsLogOf answers terms jobs (turns_of other) → one ≡ other
+    (answers : AnswerMap) (terms : Terms) (jobs : List Job) (one other : Turns) → 0 < terms.wait → 0 < terms.tries
+    → IsLogOf answers terms jobs one → IsLogOf answers terms jobs other → one ≡ other
 
 -- and there is one, where what is polled for is sound
 abbrev pub LogIsThere : Type 0
@@ -69,12 +71,29 @@ pub record IsCutLogOf (answers : AnswerMap) (terms : Terms) (jobs : List Job) (t
   pub cut : IsCut terms jobs turns
   pub in_memory : IsMemoryLog answers turns
 
--- it is a front of the whole one
+-- it is a front of the whole one, which is the same with some moves more
 abbrev pub CutIsFront : Type 0
 CutIsFront =
-    (answers : AnswerMap) (terms : Terms) (jobs : List Job) (cut log : List Move) → 0 < terms.wait → 0 < terms.tries
-    → IsCutLogOf answers terms jobs (turns_of cut) → IsLogOf answers terms jobs (turns_of log)
-    → (rest : List Move) × (log ≡ cut ++ rest)
+    (answers : AnswerMap) (terms : Terms) (jobs : List Job) (cut log : Turns) → 0 < terms.wait → 0 < terms.tries
+    → IsCutLogOf answers terms jobs cut → IsLogOf answers terms jobs log
+    → (rest : List Move) × (log ≡ with_moves cut rest)
+
+-- ---- no question goes over a stream
+
+-- no reply is truncated, so no frame is ever due
+abbrev pub NoFrameIsDue : Type 0
+NoFrameIsDue = (answers : AnswerMap) (terms : Terms) (rounds : Rounds) → IsAnswered answers (turns_in rounds) → framed terms rounds ≡ []
+
+-- nothing was sent over a stream in these rounds
+unfoldable pub AreUnframed : Rounds → Type 0
+AreUnframed (Opening sent) = Unit {0}
+AreUnframed (Round before arrival sent framing) = AreUnframed before × (framing ≡ None)
+
+-- so where each due frame and no other is sent, none is sent, and none is owed
+abbrev pub NoFrameIsSent : Type 0
+NoFrameIsSent =
+    (answers : AnswerMap) (terms : Terms) (owed : Option Question) (rounds : Rounds) → IsAnswered answers (turns_in rounds)
+    → AreFramed terms owed rounds → AreUnframed rounds × (owed ≡ None)
 
 -- ---- each question has its reply
 
@@ -119,12 +138,12 @@ SoundJobsAskFew =
     (task : Task) → IsSound task → length task.jobs ≤ MOST_URLS → 2 < task.terms.wait
     → AskFew MOST_NAMES task.terms task.jobs
 
--- the link has room for one move more while some job waits, wherever the log is cut short
+-- the link has room for one move more while some job waits, wherever a streamed log is cut short
 abbrev pub LinkHasRoom : Type 0
 LinkHasRoom =
-    (most : ℕ) (answers : AnswerMap) (terms : Terms) (jobs : List Job) (log : List Move) → AreAddresses answers → AskFew most terms jobs
-    → IsCut terms jobs (turns_of log) → IsAnswered answers (turns_of log) → some_wait terms jobs (turns_of log) ≡ true
-    → length log < MOST_MOVES
+    (most : ℕ) (answers : AnswerMap) (terms : Terms) (jobs : List Job) (owed : Option Question) (log : List Move) → AreAddresses answers
+    → AskFew most terms jobs → IsStreamed terms owed log → IsCut terms jobs (turns_of log) → IsAnswered answers (turns_of log)
+    → some_wait terms jobs (turns_of log) ≡ true → length log < MOST_MOVES
 
 -- A log that is cut short costs no more runs than a whole one, where both are answered from the map and jobs ask few names,
 -- whatever numbers their questions carry.

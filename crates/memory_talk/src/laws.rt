@@ -5,6 +5,8 @@ ghost use Rattle.memory_talk.specs.Laws.{
   CutIsFront,
   LinkHasRoom,
   LogIsThere,
+  NoFrameIsDue,
+  NoFrameIsSent,
   OneLog,
   QuestionsAreReplied,
   SitesHaveAddresses,
@@ -40,6 +42,16 @@ pub fn log_is_there()
 /// A log that is cut short is a front of the whole one.
 pub fn cut_is_front()
     ensures { CutIsFront }
+{}
+
+/// No reply from a map is truncated, so no frame is due.
+pub fn no_frame_is_due()
+    ensures { NoFrameIsDue }
+{}
+
+/// So none is sent, and none is owed.
+pub fn no_frame_is_sent()
+    ensures { NoFrameIsSent }
 {}
 
 /// Where jobs ask few names, the events of a whole log are the replies to its questions, one each and in their order,

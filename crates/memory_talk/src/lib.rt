@@ -11,6 +11,7 @@ mod laws;
 
 pub use counting_dice::CountingDice;
 pub use laws::{
-    agrees_with_the_map, cut_costs_no_more, cut_is_front, link_has_room, log_is_there, one_log,
-    questions_are_replied, sites_have_addresses, sound_jobs_ask_few, told_is_the_maps,
+    agrees_with_the_map, cut_costs_no_more, cut_is_front, link_has_room, log_is_there,
+    no_frame_is_due, no_frame_is_sent, one_log, questions_are_replied, sites_have_addresses,
+    sound_jobs_ask_few, told_is_the_maps,
 };

@@ -1,48 +1,9 @@
 // Sockets on loopback, in one process.
+use crate::loopback::{bound, opened, sender_of};
 use pac_net::{RandomDice, UdpLink};
 use pac_ports::{Dice, Got, Link, Server, Which};
 use std::io;
 use std::net::{Ipv4Addr, SocketAddr, UdpSocket};
-
-fn loopback(port: u16) -> SocketAddr {
-    SocketAddr::from((Ipv4Addr::LOCALHOST, port))
-}
-
-// A socket of any port of loopback.
-fn bound(rt: &HostRuntime) -> io::Result<UdpSocket> {
-    UdpSocket::bind(rt, loopback(0))
-}
-
-// The server whose socket this is.
-fn server(socket: &UdpSocket) -> io::Result<Server> {
-    Ok(Server {
-        address: 0x7f00_0001,
-        port: socket.local_addr()?.port(),
-    })
-}
-
-// A link to two sockets.
-fn opened<'a>(
-    rt: &'a HostRuntime,
-    first: &UdpSocket,
-    second: &UdpSocket,
-) -> io::Result<UdpLink<'a, HostRuntime>> {
-    let mut link = UdpLink::new(rt);
-    match link.open(server(first)?, server(second)?) {
-        Ok(()) => Ok(link),
-        Err(_) => Err(io::Error::other("the link isn't open")),
-    }
-}
-
-// Where the datagram came from that a socket has received, if it is this one.
-fn sender_of(wanted: &[u8], socket: &UdpSocket) -> io::Result<SocketAddr> {
-    let mut heard = [0u8; 512];
-    let (count, near) = socket.recv_from(&mut heard)?;
-    if count == wanted.len() && heard.starts_with(wanted) {
-        return Ok(near);
-    }
-    Err(io::Error::other("another datagram"))
-}
 
 #[test]
 fn both_servers_are_asked_and_heard(rt: HostRuntime) -> io::Result<()> {
@@ -55,12 +16,12 @@ fn both_servers_are_asked_and_heard(rt: HostRuntime) -> io::Result<()> {
     assert!(rt; link.send(Which::Second, b"again").is_ok());
     assert!(rt; sender_of(b"again", &second)? == near);
     second.send_to(b"reply", near)?;
-    assert!(rt; link.receive(&mut buffer) == Ok(Got::Datagram(5)));
+    assert!(rt; link.receive(&mut buffer, 512) == Ok(Got::Datagram(5)));
     assert!(rt; buffer.starts_with(b"reply"));
     first.send_to(b"late", near)?;
-    assert!(rt; link.receive(&mut buffer) == Ok(Got::Datagram(4)));
+    assert!(rt; link.receive(&mut buffer, 512) == Ok(Got::Datagram(4)));
     assert!(rt; buffer.starts_with(b"late"));
-    assert!(rt; link.receive(&mut buffer) == Ok(Got::Tick));
+    assert!(rt; link.receive(&mut buffer, 512) == Ok(Got::Tick));
     Ok(())
 }
 
@@ -73,7 +34,7 @@ fn a_server_that_was_not_asked_is_heard(rt: HostRuntime) -> io::Result<()> {
     assert!(rt; link.send(Which::First, b"question").is_ok());
     let near = sender_of(b"question", &first)?;
     second.send_to(b"reply", near)?;
-    assert!(rt; link.receive(&mut buffer) == Ok(Got::Datagram(5)));
+    assert!(rt; link.receive(&mut buffer, 512) == Ok(Got::Datagram(5)));
     assert!(rt; buffer.starts_with(b"reply"));
     Ok(())
 }
@@ -87,10 +48,10 @@ fn long_datagrams_are_empty(rt: HostRuntime) -> io::Result<()> {
     let near = sender_of(b"question", &far)?;
     // 512 octets are handed on, one more is an empty datagram
     far.send_to(&[7; 512], near)?;
-    assert!(rt; link.receive(&mut buffer) == Ok(Got::Datagram(512)));
+    assert!(rt; link.receive(&mut buffer, 512) == Ok(Got::Datagram(512)));
     assert!(rt; buffer == [7; 512]);
     far.send_to(&[8; 513], near)?;
-    assert!(rt; link.receive(&mut buffer) == Ok(Got::Datagram(0)));
+    assert!(rt; link.receive(&mut buffer, 512) == Ok(Got::Datagram(0)));
     assert!(rt; buffer == [7; 512]);
     Ok(())
 }
@@ -108,11 +69,11 @@ fn strangers_are_heard_as_empty(rt: HostRuntime) -> io::Result<()> {
     assert!(rt; link.send(Which::First, b"question").is_ok());
     let near = sender_of(b"question", &first)?;
     other.send_to(b"forged", near)?;
-    assert!(rt; link.receive(&mut buffer) == Ok(Got::Datagram(0)));
+    assert!(rt; link.receive(&mut buffer, 512) == Ok(Got::Datagram(0)));
     neighbour.send_to(b"forged", near)?;
-    assert!(rt; link.receive(&mut buffer) == Ok(Got::Datagram(0)));
+    assert!(rt; link.receive(&mut buffer, 512) == Ok(Got::Datagram(0)));
     assert!(rt; buffer == [7; 512]);
-    assert!(rt; link.receive(&mut buffer) == Ok(Got::Tick));
+    assert!(rt; link.receive(&mut buffer, 512) == Ok(Got::Tick));
     Ok(())
 }
 
@@ -125,11 +86,11 @@ fn a_closed_port_is_silent(rt: HostRuntime) -> io::Result<()> {
     let mut buffer = [0u8; 512];
     drop(first);
     assert!(rt; link.send(Which::First, b"question").is_ok());
-    assert!(rt; link.receive(&mut buffer) == Ok(Got::Tick));
+    assert!(rt; link.receive(&mut buffer, 512) == Ok(Got::Tick));
     assert!(rt; link.send(Which::Second, b"question").is_ok());
     let near = sender_of(b"question", &second)?;
     second.send_to(b"reply", near)?;
-    assert!(rt; link.receive(&mut buffer) == Ok(Got::Datagram(5)));
+    assert!(rt; link.receive(&mut buffer, 512) == Ok(Got::Datagram(5)));
     Ok(())
 }
 
@@ -141,10 +102,10 @@ fn a_call_that_the_machine_refuses_is_a_fault(rt: HostRuntime) -> io::Result<()>
     };
     let mut link = UdpLink::new(&rt);
     assert!(rt; link.send(Which::First, b"question").is_err());
-    assert!(rt; link.receive(&mut [0; 512]).is_err());
+    assert!(rt; link.receive(&mut [0; 512], 512).is_err());
     assert!(rt; link.open(everybody, everybody).is_ok());
     assert!(rt; link.send(Which::First, b"question").is_err());
-    assert!(rt; link.receive(&mut [0; 512]) == Ok(Got::Tick));
+    assert!(rt; link.receive(&mut [0; 512], 512) == Ok(Got::Tick));
     Ok(())
 }
 

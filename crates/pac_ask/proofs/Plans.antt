@@ -7,8 +7,11 @@ use Rattle.pac_names.specs.Quads.{quad_of}
 use Rattle.pac_ports.specs.Dice.{DiceTold, Gave}
 use Rattle.poll_log.specs.declared.terms.Terms.{Terms}
 use Rattle.poll_log.specs.Sendings.{AreTerms}
+use Rattle.poll_log.specs.Flat.{flat_behind}
 use Rattle.poll_log.specs.Turns.{turns_of, with_moves}
 use Rattle.poll_log.specs.Questions.{firsts, new_among}
+use Rattle.poll_log.specs.Rounds.{Opening, moves_of}
+use Rattle.poll_log.specs.Streamed.{AreFramed}
 use Rattle.poll_log.specs.Told.{told}
 use Rattle.poll_log.specs.Jobs.{Job}
 use Rattle.stub_poller.specs.State.{StubState}
@@ -38,7 +41,7 @@ memory_first upstream text o = by_quad (quad_of text)
 
 -- memory ran out when a number had been drawn
 pub memory_drawn : (upstream : Upstream) (name : List ℕ) → AreTerms upstream.terms → IsTrue (is_lookup_name name) → (o : Outside) (id : ℕ) (dice : Option DiceTold) → Gave o.dice id dice → Follows talks (name_plan upstream (Some name)) o (record o { dice = dice }) None
-unfolding firsts new_among with_moves
+unfolding firsts new_among with_moves flat_behind AreFramed moves_of
 memory_drawn upstream name terms named o id dice g =
     let is_sound : IsSound (task_of upstream.terms name) = sound upstream.terms name terms named in (
       unfinished,
@@ -47,8 +50,11 @@ memory_drawn upstream name terms named o id dice g =
         files = refl;
         clock = refl;
         few = few_none upstream.terms;
+        streams = refl;
         ends = inl (record {
           cut = cut_begin upstream.terms (task_of upstream.terms name).jobs terms.waits terms.tried is_sound.named;
+          owed = None;
+          streamed = record { rounds = Opening []; moves = refl; framed = refl };
           link = refl;
           drew = (id ∷ [], (dice, g, refl));
           ran = omega arith;

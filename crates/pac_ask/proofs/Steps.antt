@@ -9,12 +9,12 @@ use Rattle.poll_log.specs.Beats.{is_beat}
 use Rattle.poll_log.specs.Questions.{outgoing_of, firsts, questions}
 use Rattle.poll_log.specs.Jobs.{IsOwed, some_wait, waits_unless}
 use Rattle.poll_log.specs.Laws.{lacking_or}
-use Rattle.poll_log.specs.Moment.{dead_in}
+use Rattle.poll_log.specs.Moment.{dead_in, flights_of}
 use Rattle.poll_log.specs.Sendings.{limit}
 use Rattle.poll_log.specs.Told.{age, is_dead, told}
 use Rattle.poll_log.proofs.Names.{true_false}
 use Rattle.stub_poller.proofs.Ages.{lasts}
-use Rattle.stub_poller.proofs.Driving.{driven_shows, driven_terms}
+use Rattle.stub_poller.proofs.Driving.{driven_flights, driven_shows, driven_terms}
 use Rattle.std.specs.Prelude.{is_some, if◌then◌else◌}
 use Rattle.stub_poller.specs.State.{StubState, beaten, given, is_dead_in, resent}
 use Rattle.stub_poller.specs.Driven.{beaten_if, driven, receiving}
@@ -64,7 +64,7 @@ module _ (name : List ℕ) (answer : Option Answer) (t : Terms) (stub : StubStat
         ran = subst (λ (x : Task). runs + x.runs h ≤ runs + x.runs (Then h e [])) (sym s.same) (omega arith);
       }
 
--- whether nobody waits
+-- what is in flight, and whether nobody waits
 module _ (name : List ℕ) (answer : Option Answer) (t : Terms) (stub : StubState) (n : ℕ) (task : Task) (h : Turns) (s : Stands name answer t stub n task h) where
   dead_here : is_dead_in name stub ≡ is_dead t h name
   unfolding is_dead dead_in
@@ -72,6 +72,12 @@ module _ (name : List ℕ) (answer : Option Answer) (t : Terms) (stub : StubStat
       ap (is_dead_in name) s.flying
       ∙ (driven_shows t h (lasts t s.ranges.waits s.ranges.tried)).dying name
       ∙ ap (λ x. dead_in (limit x) (told t h) (age h) (firsts h) name) (driven_terms t h)
+
+  pub flights_here : stub.flights ≡ flights_of task.terms h
+  flights_here =
+      ap (λ (x : StubState). x.flights) s.flying
+      ∙ driven_flights t h (lasts t s.ranges.waits s.ranges.tried)
+      ∙ sym (ap (λ (x : Task). flights_of x.terms h) s.same)
 
   waits_here : (m : Option Answer) → told t h name ≡ m → some_wait task.terms task.jobs h ≡ (waits_unless (is_dead t h) (lacking_or name m None) || false)
   waits_here m e = ap (λ (x : Task). some_wait x.terms x.jobs h) s.same ∙ ap (λ m. waits_unless (is_dead t h) (lacking_or name m None) || false) e

@@ -9,7 +9,7 @@ ghost use Rattle.pac_ask.specs.OneName.{hearing, new_one, received};
 
 use pac_names::{Answer, LookupName};
 use pac_ports::Dice;
-use poll_log::{Sending, Terms};
+use poll_log::{Question, Sending, Terms};
 use poll_loop::{BeatCounter, Event, Poller};
 use std::alloc::Global;
 use std::sync::ledger::Ledger;
@@ -93,6 +93,10 @@ impl Poller for OneName {
 
     fn ended(&self) -> bool {
         self.answer.is_some() || self.stub.is_dead(&self.name)
+    }
+
+    fn truncated(&self, datagram: &[u8]) -> Option<Question> {
+        self.stub.truncated(datagram)
     }
 
     fn step<D: Dice, L: Ledger>(

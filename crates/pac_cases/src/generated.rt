@@ -118,7 +118,7 @@ fn ask<N: Link>(link: &mut N, to: Which, name: &str) -> Result<()> {
 fn reply<N: Link>(alloc: Global, link: &mut N, name: &str) -> Result<String> {
     let name = LookupName::from_bytes(name.as_bytes()).context("a lookup name")?;
     let mut buffer = [0; 512];
-    match link.receive(&mut buffer) {
+    match link.receive(&mut buffer, 512) {
         Ok(Got::Datagram(count)) => {
             let datagram = buffer
                 .get(..count)
@@ -126,6 +126,7 @@ fn reply<N: Link>(alloc: Global, link: &mut N, name: &str) -> Result<String> {
             written(alloc, read_reply(datagram, NUMBER, &name))
         }
         Ok(Got::Tick) => Ok(String::from_str(alloc, "a tick")?),
+        Ok(Got::Piece(_) | Got::StreamEnd) => bail!("the link has no stream"),
         Err(_) => bail!("the link failed"),
     }
 }

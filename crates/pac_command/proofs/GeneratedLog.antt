@@ -55,9 +55,9 @@ runs_within : (seed sites : ℕ) (script : List StatementTree) (log : List Move)
 runs_within seed sites script log low its old whole part new t =
     let task : Task = generate_task seed sites script in
     let finite = (task_is_sound seed sites script).terms in
-    let same : log ≡ part =
-    one_log (generated seed sites).map task.terms task.jobs log part finite.waits finite.tried its (record { polled = t.polled; in_memory = t.in_memory }) in
-    let cost : task.runs (turns_of log) ≡ task.runs (turns_of part) = ap (λ (moves : List Move). task.runs (turns_of moves)) same in
+    let same : turns_of log ≡ turns_of part =
+    one_log (generated seed sites).map task.terms task.jobs (turns_of log) (turns_of part) finite.waits finite.tried its (record { polled = t.polled; in_memory = t.in_memory }) in
+    let cost : task.runs (turns_of log) ≡ task.runs (turns_of part) = ap task.runs same in
     let ran : new.runs ≡ old.runs + task.runs (turns_of part) = ap (λ (o : Outside). o.runs) t.ran in
     omega (arith, cost, ran)
 runs_within seed sites script log low its old faulted part new t = absurd t

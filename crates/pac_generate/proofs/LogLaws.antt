@@ -11,19 +11,32 @@ use Rattle.pac_ports.specs.declared.link.Servers.{Servers}
 use Rattle.pac_ports.specs.declared.link.Which.{Which}
 use Rattle.pac_ports.specs.declared.link.Got.{Got}
 use Rattle.pac_ports.specs.declared.link.Got.TheVariants as got
-use Rattle.pac_ports.specs.MemoryLink.{event_got, event_move, filled}
 use Rattle.poll_log.specs.declared.question.Question.{Question}
-use Rattle.poll_log.specs.Turns.{Outgoing, Turns, Begin, Then, Event, Given, Tick, with_sent, with_move, with_moves, turns_of}
+use Rattle.poll_log.specs.Flat.{flat_behind}
+use Rattle.poll_log.specs.Turns.{Outgoing, Turns, Begin, Then, Event, Given, Tick, with_sent, with_moves, turns_of}
 use Rattle.poll_log.specs.Questions.{asked_by, asked_in, questions}
 use Rattle.poll_log.proofs.Asking.{asked_in-append}
-use Rattle.poll_log.proofs.Grows.{with_moves-append}
+use Rattle.poll_log.proofs.Grows.{turns_of-append}
 use Rattle.pac_generate.specs.Answered.{IsAnswered, reply_from, replies, given, due_reply, event_by}
 use Rattle.pac_generate.specs.declared.limits.TheConstants.{MOST_MOVES, MOST_QUESTIONS}
-use Rattle.pac_generate.specs.MapLink.{IsKept, MapLinkState, ReceivesDue, replies_with}
+use Rattle.pac_generate.specs.MapLink.{IsKept, MapLinkState, ReceivesDue, event_got, event_move, filled, replies_with}
 
-next_turns : (log : List Move) (m : Move) → turns_of (log ++ m ∷ []) ≡ with_move (turns_of log) m
-unfolding with_moves
-next_turns log m = with_moves-append (Begin []) log (m ∷ [])
+turns_sent : (log : List Move) (d : Outgoing) → turns_of (log ++ move.Sent d.to d.octets ∷ []) ≡ with_sent (turns_of log) (d ∷ [])
+unfolding with_moves flat_behind
+turns_sent log d = turns_of-append log (move.Sent d.to d.octets ∷ [])
+
+turns_given : (log : List Move) (octets : List ℕ) → turns_of (log ++ move.Given octets ∷ []) ≡ Then (turns_of log) (Given octets) []
+unfolding with_moves flat_behind
+turns_given log octets = turns_of-append log (move.Given octets ∷ [])
+
+turns_tick : (log : List Move) → turns_of (log ++ move.Tick ∷ []) ≡ Then (turns_of log) Tick []
+unfolding with_moves flat_behind
+turns_tick log = turns_of-append log (move.Tick ∷ [])
+
+-- a stream that ended leaves the turns
+turns_failed : (log : List Move) (octets : List ℕ) → turns_of (log ++ move.StreamFailed octets ∷ []) ≡ turns_of log
+unfolding with_moves flat_behind
+turns_failed log octets = turns_of-append log (move.StreamFailed octets ∷ [])
 
 -- ---- a datagram is sent
 
@@ -60,7 +73,7 @@ pub kept_sent : (answers known : AnswerMap) (log : List Move) (kept kept' : List
     → kept' ≡ replies_with known kept octets → IsKept answers known (log ++ move.Sent to octets ∷ []) kept' count
 kept_sent answers known log kept kept' count to octets k e =
     let d : Outgoing = record { to = to; octets = octets } in
-    let turns = next_turns log (move.Sent to octets) in
+    let turns = turns_sent log d in
     record {
       same = k.same;
       replies =
@@ -97,7 +110,7 @@ given_tick h = refl
 pub kept_given : (answers known : AnswerMap) (log : List Move) (kept : List (List ℕ)) (count : ℕ) (octets : List ℕ) → IsKept answers known log kept count
     → slice_get kept count ≡ Some octets → IsKept answers known (log ++ move.Given octets ∷ []) kept (count + 1)
 kept_given answers known log kept count octets k due =
-    let turns = next_turns log (move.Given octets) in
+    let turns = turns_given log octets in
     record {
       same = k.same;
       replies = k.replies ∙ sym (replies_then answers (turns_of log) (Given octets)) ∙ ap (replies answers) (sym turns);
@@ -108,7 +121,7 @@ kept_given answers known log kept count octets k due =
 pub kept_tick : (answers known : AnswerMap) (log : List Move) (kept : List (List ℕ)) (count : ℕ) → IsKept answers known log kept count
     → slice_get kept count ≡ None → IsKept answers known (log ++ move.Tick ∷ []) kept count
 kept_tick answers known log kept count k none =
-    let turns = next_turns log move.Tick in
+    let turns = turns_tick log in
     record {
       same = k.same;
       replies = k.replies ∙ sym (replies_then answers (turns_of log) Tick) ∙ ap (replies answers) (sym turns);
@@ -116,10 +129,23 @@ kept_tick answers known log kept count k none =
       answered = rw turns (answered_then answers (turns_of log) Tick k.answered (ap event_by (sym (kept_due answers known log kept count k ∙ none))));
     }
 
+-- ---- the stream ends
+
+pub kept_failed : (answers known : AnswerMap) (log : List Move) (kept : List (List ℕ)) (count : ℕ) (octets : List ℕ) → IsKept answers known log kept count
+    → IsKept answers known (log ++ move.StreamFailed octets ∷ []) kept count
+kept_failed answers known log kept count octets k =
+    let turns = turns_failed log octets in
+    record {
+      same = k.same;
+      replies = k.replies ∙ ap (replies answers) (sym turns);
+      given = k.given ∙ ap given (sym turns);
+      answered = rw turns k.answered;
+    }
+
 -- ---- a log without moves, and what a datagram adds to the replies
 
 pub kept_new : (answers known : AnswerMap) → known ≡ answers → IsKept answers known [] [] 0
-unfolding with_moves replies questions given IsAnswered
+unfolding with_moves flat_behind replies questions given IsAnswered
 kept_new answers known same = record { same = same; replies = refl; given = refl; answered = tt }
 
 pub replies_full : (answers : AnswerMap) (kept : List (List ℕ)) (octets : List ℕ) → length kept ≡ MOST_QUESTIONS → kept ≡ replies_with answers kept octets
@@ -142,18 +168,18 @@ received : (due : Option (List ℕ)) (old new : MapLinkState) (buffer buffer' : 
     → buffer' ≡ filled event buffer → new ≡ record old { log = old.log ++ event_move event ∷ [] } → ReceivesDue due old buffer given buffer' new
 received due old new buffer buffer' given event is allowed answer octets state = rw is (record { allowed = allowed; answer = answer; octets = octets; state = state })
 
-pub received_tick : (answers known : AnswerMap) (old : MapLinkState) (log log' : List Move) (opens : ℕ) (servers : Option Servers) (faults : ℕ) (kept : List (List ℕ)) (count : ℕ) (buffer : List ℕ)
-    → (record { log = log; opens = opens; servers = servers; faults = faults }) ≡ old → log' ≡ log ++ move.Tick ∷ [] → length log < MOST_MOVES
+pub received_tick : (answers known : AnswerMap) (old : MapLinkState) (log log' : List Move) (opens : ℕ) (servers : Option Servers) (faults stream_faults : ℕ) (kept : List (List ℕ)) (count : ℕ) (buffer : List ℕ)
+    → (record { log = log; opens = opens; servers = servers; faults = faults; stream_faults = stream_faults }) ≡ old → log' ≡ log ++ move.Tick ∷ [] → length log < MOST_MOVES
     → IsKept answers known log kept count → length kept ≤ count
-    → ReceivesDue (due_reply answers (turns_of old.log)) old buffer got.Tick buffer (record { log = log'; opens = opens; servers = servers; faults = faults })
-received_tick answers known old log log' opens servers faults kept count buffer view more allowed k none =
+    → ReceivesDue (due_reply answers (turns_of old.log)) old buffer got.Tick buffer (record { log = log'; opens = opens; servers = servers; faults = faults; stream_faults = stream_faults })
+received_tick answers known old log log' opens servers faults stream_faults kept count buffer view more allowed k none =
     rw (← view, more)
-    (received _ (record { log = log; opens = opens; servers = servers; faults = faults }) _ buffer buffer got.Tick None (kept_due answers known log kept count k ∙ slice_get_past kept count none) allowed refl refl refl)
+    (received _ (record { log = log; opens = opens; servers = servers; faults = faults; stream_faults = stream_faults }) _ buffer buffer got.Tick None (kept_due answers known log kept count k ∙ slice_get_past kept count none) allowed refl refl refl)
 
-pub received_reply : (answers known : AnswerMap) (old : MapLinkState) (log log' : List Move) (opens : ℕ) (servers : Option Servers) (faults : ℕ) (kept : List (List ℕ)) (count : ℕ) (buffer buffer' octets : List ℕ)
-    → (record { log = log; opens = opens; servers = servers; faults = faults }) ≡ old → log' ≡ log ++ move.Given octets ∷ [] → length log < MOST_MOVES
+pub received_reply : (answers known : AnswerMap) (old : MapLinkState) (log log' : List Move) (opens : ℕ) (servers : Option Servers) (faults stream_faults : ℕ) (kept : List (List ℕ)) (count : ℕ) (buffer buffer' octets : List ℕ)
+    → (record { log = log; opens = opens; servers = servers; faults = faults; stream_faults = stream_faults }) ≡ old → log' ≡ log ++ move.Given octets ∷ [] → length log < MOST_MOVES
     → IsKept answers known log kept count → slice_get kept count ≡ Some octets → buffer' ≡ octets ++ drop (length octets) buffer
-    → ReceivesDue (due_reply answers (turns_of old.log)) old buffer (got.Datagram (length octets)) buffer' (record { log = log'; opens = opens; servers = servers; faults = faults })
-received_reply answers known old log log' opens servers faults kept count buffer buffer' octets view more allowed k due front =
+    → ReceivesDue (due_reply answers (turns_of old.log)) old buffer (got.Datagram (length octets)) buffer' (record { log = log'; opens = opens; servers = servers; faults = faults; stream_faults = stream_faults })
+received_reply answers known old log log' opens servers faults stream_faults kept count buffer buffer' octets view more allowed k due front =
     rw (← view, more)
-    (received _ (record { log = log; opens = opens; servers = servers; faults = faults }) _ buffer buffer' (got.Datagram (length octets)) (Some octets) (kept_due answers known log kept count k ∙ due) allowed refl front refl)
+    (received _ (record { log = log; opens = opens; servers = servers; faults = faults; stream_faults = stream_faults }) _ buffer buffer' (got.Datagram (length octets)) (Some octets) (kept_due answers known log kept count k ∙ due) allowed refl front refl)

@@ -5,7 +5,7 @@ ghost use Rattle.js_host.specs.Answers.{AnswerMap};
 use crate::limits::{MOST_MOVES, MOST_QUESTIONS};
 use crate::replies::keep_reply;
 use answer_table::AnswerTable;
-use pac_ports::{Failed, Got, Link, Move, Octets, Server, Servers, Which};
+use pac_ports::{Failed, Got, Link, Move, Octets, Server, Servers, StreamAnswer, Which};
 use std::alloc::Global;
 use std::marker::{Brand, Model, PhantomData};
 use utf16_text::Memory;
@@ -23,8 +23,8 @@ impl KnownAnswers for Brand {
 }
 
 /// A link in memory that replies to the first 8,192 questions that it is sent, in their order and whichever server they
-/// go to, with the answer that a table has for each; where no reply is due it ticks. The room for 16,384 moves is taken
-/// beforehand: a call that would pass it fails.
+/// go to, with the answer that a table has for each; where no reply is due it ticks. It has no stream. The room for 16,384
+/// moves is taken beforehand: a call that would pass it fails.
 #[derive(Drop)]
 pub struct MapLink<'a, K: KnownAnswers> {
     known: &'a AnswerTable,
@@ -36,6 +36,7 @@ pub struct MapLink<'a, K: KnownAnswers> {
     opens: u64,
     servers: Option<Servers>,
     faults: u64,
+    stream_faults: u64,
     answers: PhantomData<K>,
 }
 
@@ -46,11 +47,17 @@ impl<'a, K: KnownAnswers> Model for MapLink<'a, K> {
 
     ghost Value = { MapLinkState };
 
-    ghost view = { λ l. record { log = l.log.items; opens = l.opens; servers = l.servers; faults = l.faults } };
+    ghost view = { λ l. record {
+      log = l.log.items;
+      opens = l.opens;
+      servers = l.servers;
+      faults = l.faults;
+      stream_faults = l.stream_faults;
+    } };
 
     ghost invariant = { λ l.
         (vec_len l.log ≤ MOST_MOVES) × (MOST_MOVES ≤ vec_capacity l.log) × (vec_len l.replies ≤ MOST_QUESTIONS) × (MOST_QUESTIONS ≤ vec_capacity l.replies)
-        × (l.faults < 2 ^ 64) × IsKept K.answers l.known.now l.log.items l.replies.items l.given };
+        × (l.faults < 2 ^ 64) × (l.stream_faults < 2 ^ 64) × IsKept K.answers l.known.now l.log.items l.replies.items l.given };
 }
 
 impl<'a, K: KnownAnswers> MapLink<'a, K> {
@@ -72,6 +79,7 @@ impl<'a, K: KnownAnswers> MapLink<'a, K> {
             opens: 0,
             servers: None,
             faults: 0,
+            stream_faults: 0,
             answers: PhantomData,
         })
     }
@@ -95,8 +103,8 @@ impl<'a, K: KnownAnswers> MapLink<'a, K> {
 }
 
 impl<'a, K: KnownAnswers> Link for MapLink<'a, K> {
-    ghost use Rattle.pac_ports.specs.Link.{HasOpened, HasSent, HasReceived};
-    ghost use Rattle.pac_generate.specs.MapLink.{link_of, Opens, Sends, Receives};
+    ghost use Rattle.pac_ports.specs.Link.{HasOpened, HasSent, HasStreamed, HasReceived};
+    ghost use Rattle.pac_generate.specs.MapLink.{link_of, Opens, Sends, Streams, Receives};
 
     ghost state = { link_of };
 
@@ -123,8 +131,25 @@ impl<'a, K: KnownAnswers> Link for MapLink<'a, K> {
         Ok(())
     }
 
-    fn receive(&mut self, buffer: &mut [u8; 512]) -> Result<Got, Failed>
-        ensures received { HasReceived (link_of self.old) buffer.new result (link_of self.new) }
+    fn stream_send(&mut self, octets: &[u8]) -> Result<(), StreamAnswer>
+        requires { length octets.now ≤ 512 }
+        ensures sent { HasStreamed (link_of self.old) octets.now result (link_of self.new) }
+        ensures exactly { Streams self.old octets.now result self.new }
+    {
+        if self.log.len() >= MOST_MOVES {
+            self.fail();
+            return Err(StreamAnswer::Failed);
+        }
+        let octets = Octets::new(octets);
+        self.log.push_reserved(Move::StreamFailed(octets));
+        self.stream_faults = self.stream_faults.saturating_add(1);
+        Err(StreamAnswer::Ended)
+    }
+
+    fn receive(&mut self, buffer: &mut [u8; 512], _wanted: usize) -> Result<Got, Failed>
+        requires some { 1 ≤ _wanted }
+        requires within { _wanted ≤ 512 }
+        ensures received { HasReceived (link_of self.old) _wanted buffer.new result (link_of self.new) }
         ensures exactly { Receives K.answers self.old buffer.old result buffer.new self.new }
     {
         if self.log.len() >= MOST_MOVES {

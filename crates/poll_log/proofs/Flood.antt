@@ -8,6 +8,7 @@ use Rattle.pac_ports.specs.declared.link.Which.TheVariants.{First}
 use Rattle.dns_message.specs.Question.{question_octets}
 use Rattle.dns_message.proofs.Replies.{no_header}
 use Rattle.poll_log.specs.declared.terms.TheConstants.{FLOOD}
+use Rattle.poll_log.specs.Flat.{flat_behind}
 use Rattle.poll_log.specs.Turns.{Turns, Begin, Then, Given, turns_of, with_moves}
 use Rattle.poll_log.specs.Beats.{beats, floods, ticks, stretches}
 use Rattle.poll_log.specs.Questions.{asked_by, before_birth, firsts, new_among, number_in, was_sent}
@@ -76,9 +77,14 @@ begun_quiet = record { sent = refl; untold = refl; born = refl; cost = refl }
 abbrev pub flood : ℕ → Turns
 flood n = turns_of (move.Sent First asked ∷ replicate n (move.Given []))
 
+empty_flat : (n : ℕ) → flat_behind [] (empty n) ≡ empty n
+unfolding flat_behind empty
+empty_flat zero = refl
+empty_flat (suc n) = ap (λ l. move.Given [] ∷ l) (empty_flat n)
+
 flood_begun : (n : ℕ) → flood n ≡ with_moves begun (empty n)
-unfolding with_moves begun empty
-flood_begun n = refl
+unfolding with_moves flat_behind begun empty
+flood_begun n = ap (with_moves begun) (empty_flat n)
 
 flood_quiet : (n : ℕ) → Quiet (flood n)
 flood_quiet n = subst Quiet (sym (flood_begun n)) (quiet_many n begun begun_quiet)

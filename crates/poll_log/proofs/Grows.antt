@@ -6,6 +6,7 @@ use Rattle.pac_names.specs.declared.answer.Answer.{Answer}
 use Rattle.pac_ports.specs.declared.link.Move.{Move}
 use Rattle.pac_ports.specs.declared.link.Move.TheVariants as move
 use Rattle.poll_log.specs.declared.terms.Terms.{Terms}
+use Rattle.poll_log.specs.Flat.{flat, flat_behind, frames_behind, message_behind, unfinished_behind}
 use Rattle.poll_log.specs.Turns.{Outgoing, Turns, Begin, Then, Event, Given, Tick, with_sent, with_move, with_moves, turns_of}
 use Rattle.poll_log.specs.Beats.{beat_of}
 use Rattle.poll_log.specs.Questions.{firsts, was_sent, has_name, asked_in, new_among}
@@ -21,6 +22,23 @@ unfolding with_moves
 with_moves-append h [] more = refl
 with_moves-append h (m ∷ ms) more = with_moves-append (with_move h m) ms more
 
+flat_behind-append : (rest : List ℕ) (ms more : List Move) → flat_behind rest (ms ++ more) ≡ flat_behind rest ms ++ flat_behind (unfinished_behind rest ms) more
+unfolding flat_behind unfinished_behind
+flat_behind-append rest [] more = refl
+flat_behind-append rest (move.Sent to octets ∷ ms) more = ap (λ l. move.Sent to octets ∷ l) (flat_behind-append rest ms more)
+flat_behind-append rest (move.Given octets ∷ ms) more = ap (λ l. move.Given octets ∷ l) (flat_behind-append rest ms more)
+flat_behind-append rest (move.Tick ∷ ms) more = ap (λ l. move.Tick ∷ l) (flat_behind-append rest ms more)
+flat_behind-append rest (move.StreamSent octets ∷ ms) more = flat_behind-append rest ms more
+flat_behind-append rest (move.StreamFailed octets ∷ ms) more = flat_behind-append [] ms more
+flat_behind-append rest (move.Piece octets ∷ ms) more = ap (λ l. move.Given (message_behind rest octets) ∷ l) (flat_behind-append (frames_behind rest octets).rest ms more)
+flat_behind-append rest (move.StreamEnd ∷ ms) more = ap (λ l. move.Given [] ∷ l) (flat_behind-append [] ms more)
+
+-- the turns of a longer log
+pub turns_of-append : (ms more : List Move) → turns_of (ms ++ more) ≡ with_moves (turns_of ms) (flat_behind (unfinished_behind [] ms) more)
+turns_of-append ms more =
+    ap (with_moves (Begin [])) (flat_behind-append [] ms more)
+    ∙ with_moves-append (Begin []) (flat ms) (flat_behind (unfinished_behind [] ms) more)
+
 -- A fact that each move keeps holds in each longer log.
 module _ (P : Turns → Type 0) (step : (h : Turns) (m : Move) → P h → P (with_move h m)) where
   along : (h : Turns) (ms : List Move) → P h → P (with_moves h ms)
@@ -29,7 +47,7 @@ module _ (P : Turns → Type 0) (step : (h : Turns) (m : Move) → P h → P (wi
   along h (m ∷ ms) p = along (with_move h m) ms (step h m p)
 
   pub longer : (ms more : List Move) → P (turns_of ms) → P (turns_of (ms ++ more))
-  longer ms more p = subst P (sym (with_moves-append (Begin []) ms more)) (along (turns_of ms) more p)
+  longer ms more p = subst P (sym (turns_of-append ms more)) (along (turns_of ms) (flat_behind (unfinished_behind [] ms) more) p)
 
 -- more sends in the last turn change nothing that is told
 told_with_sent : (t : Terms) (h : Turns) (more : List Outgoing) (n : List ℕ) → told t (with_sent h more) n ≡ told t h n
@@ -41,6 +59,10 @@ told_step : (t : Terms) (n : List ℕ) (x : Answer) (h : Turns) (m : Move) → t
 told_step t n x h (move.Sent to octets) k = told_with_sent t h (record { to = to; octets = octets } ∷ []) n ∙ k
 told_step t n x h (move.Given octets) k = told_stays t h (Given octets) [] n x k
 told_step t n x h move.Tick k = told_stays t h Tick [] n x k
+told_step t n x h (move.StreamSent octets) k = k
+told_step t n x h (move.StreamFailed octets) k = k
+told_step t n x h (move.Piece octets) k = k
+told_step t n x h move.StreamEnd k = k
 
 pub told_grows : ToldGrows
 told_grows t ms more n x k = longer (λ h. told t h n ≡ Some x) (told_step t n x) ms more k
@@ -131,6 +153,10 @@ dead_step t n h (move.Sent to octets) d =
     }
 dead_step t n h (move.Given octets) d = died_then t n h (Given octets) d
 dead_step t n h move.Tick d = died_then t n h Tick d
+dead_step t n h (move.StreamSent octets) d = d
+dead_step t n h (move.StreamFailed octets) d = d
+dead_step t n h (move.Piece octets) d = d
+dead_step t n h move.StreamEnd d = d
 
 pub dead_stays : DeadStays
 dead_stays t ms more n k = dead_by t (turns_of (ms ++ more)) n (longer (λ h. Died t h n) (dead_step t n) ms more (died t (turns_of ms) n k))

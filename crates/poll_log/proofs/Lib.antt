@@ -9,6 +9,7 @@ pub mod Dues
 pub mod Bounds
 pub mod Wanted
 pub mod Grows
+pub mod Rounds
 pub mod Births
 pub mod Orders
 pub mod Flood

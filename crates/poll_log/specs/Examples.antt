@@ -15,6 +15,7 @@ use Rattle.dns_message.specs.Reply.{reply_of, answer_on}
 use Rattle.poll_log.specs.declared.question.Question.{Question}
 use Rattle.poll_log.specs.declared.terms.Terms.{Terms}
 use Rattle.poll_log.specs.Sendings.{limit, sending_at, server_of}
+use Rattle.poll_log.specs.Flat.{flat_behind}
 use Rattle.poll_log.specs.Turns.{Outgoing, Turns, Begin, Then, turns_of, with_moves}
 use Rattle.poll_log.specs.Turns as event
 use Rattle.poll_log.specs.Beats.{beats, ticks, stretches, is_beat}
@@ -72,11 +73,11 @@ abbrev pub at_once : List Move
 at_once = Sent First asked ∷ Given answered ∷ []
 
 pub at_once-told : told thrice (turns_of at_once) example ≡ Some (Address 0x5db8d822)
-unfolding told accepted accepted_in age firsts new_among asked_by question_octets with_moves is_beat beats ticks stretches number_in reply_of name_at name_from part_at record_at facts_at answer_on
+unfolding told accepted accepted_in age firsts new_among asked_by question_octets with_moves flat_behind is_beat beats ticks stretches number_in reply_of name_at name_from part_at record_at facts_at answer_on
 at_once-told = refl
 
 pub at_once-runs : runs_of thrice (turns_of at_once) job ≡ 2
-unfolding runs_of told accepted accepted_in age firsts new_among asked_by question_octets with_moves is_beat beats ticks stretches number_in reply_of name_at name_from part_at record_at facts_at answer_on
+unfolding runs_of told accepted accepted_in age firsts new_among asked_by question_octets with_moves flat_behind is_beat beats ticks stretches number_in reply_of name_at name_from part_at record_at facts_at answer_on
 at_once-runs = refl
 
 -- A reply comes behind the third sending.
@@ -84,15 +85,15 @@ abbrev pub late : List Move
 late = Sent First asked ∷ Tick ∷ Sent Second asked ∷ Tick ∷ Tick ∷ Sent First asked ∷ Given answered ∷ []
 
 pub late-told : told thrice (turns_of late) example ≡ Some (Address 0x5db8d822)
-unfolding told accepted accepted_in age firsts new_among asked_by question_octets with_moves is_beat beats ticks stretches number_in reply_of name_at name_from part_at record_at facts_at answer_on
+unfolding told accepted accepted_in age firsts new_among asked_by question_octets with_moves flat_behind is_beat beats ticks stretches number_in reply_of name_at name_from part_at record_at facts_at answer_on
 late-told = refl
 
 pub late-due : due_sends thrice (turns_of late) example ≡ 3
-unfolding due_sends stopped_age told accepted accepted_in age firsts new_among asked_by question_octets with_moves is_beat beats ticks stretches number_in reply_of name_at name_from part_at record_at facts_at answer_on
+unfolding due_sends stopped_age told accepted accepted_in age firsts new_among asked_by question_octets with_moves flat_behind is_beat beats ticks stretches number_in reply_of name_at name_from part_at record_at facts_at answer_on
 late-due = refl
 
 pub late-sent : times (questions (turns_of late)) example ≡ 3
-unfolding questions asked_by question_octets with_moves
+unfolding questions asked_by question_octets with_moves flat_behind
 late-sent = refl
 
 -- No datagram comes: three sendings, and four ticks behind the last one.
@@ -100,23 +101,23 @@ abbrev pub silence : List Move
 silence = Sent First asked ∷ Tick ∷ Sent Second asked ∷ Tick ∷ Tick ∷ Sent First asked ∷ Tick ∷ Tick ∷ Tick ∷ Tick ∷ []
 
 pub silence-waits : is_waiting thrice (turns_of (take 9 silence)) job ≡ true
-unfolding is_dead told accepted accepted_in age firsts new_among asked_by question_octets with_moves is_beat beats ticks stretches
+unfolding is_dead told accepted accepted_in age firsts new_among asked_by question_octets with_moves flat_behind is_beat beats ticks stretches
 silence-waits = refl
 
 pub silence-sent : times (questions (turns_of silence)) example ≡ 3
-unfolding questions asked_by question_octets with_moves
+unfolding questions asked_by question_octets with_moves flat_behind
 silence-sent = refl
 
 pub silence-due : due_sends thrice (turns_of silence) example ≡ 3
-unfolding due_sends stopped_age told accepted accepted_in age firsts new_among asked_by question_octets with_moves is_beat beats ticks stretches
+unfolding due_sends stopped_age told accepted accepted_in age firsts new_among asked_by question_octets with_moves flat_behind is_beat beats ticks stretches
 silence-due = refl
 
 pub silence-runs : runs_of thrice (turns_of silence) job ≡ 1
-unfolding runs_of told accepted accepted_in age firsts new_among asked_by question_octets with_moves is_beat beats ticks stretches
+unfolding runs_of told accepted accepted_in age firsts new_among asked_by question_octets with_moves flat_behind is_beat beats ticks stretches
 silence-runs = refl
 
 pub silence-dead : is_dead thrice (turns_of silence) example ≡ true
-unfolding is_dead told accepted accepted_in age firsts new_among asked_by question_octets with_moves is_beat beats ticks stretches
+unfolding is_dead told accepted accepted_in age firsts new_among asked_by question_octets with_moves flat_behind is_beat beats ticks stretches
 silence-dead = refl
 
 abbrev pub question : Question
@@ -133,7 +134,7 @@ abbrev pub brief : Turns
 brief = Then (Then (Then (Begin (to_first ∷ [])) event.Tick (to_second ∷ [])) event.Tick []) event.Tick []
 
 pub brief-is : turns_of (Sent First asked ∷ Tick ∷ Sent Second asked ∷ Tick ∷ Tick ∷ []) ≡ brief
-unfolding with_moves
+unfolding with_moves flat_behind
 brief-is = refl
 
 is_question : IsQuestion question

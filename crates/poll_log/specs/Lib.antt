@@ -1,9 +1,12 @@
 pub mod Sendings
+pub mod Flat
 pub mod Turns
+pub mod Rounds
 pub mod Beats
 pub mod Questions
 pub mod Told
 pub mod Jobs
 pub mod Moment
+pub mod Streamed
 pub mod Laws
 pub mod Examples

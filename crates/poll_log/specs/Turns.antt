@@ -1,8 +1,9 @@
--- A log of moves, oldest first, cut into turns. The octets of a datagram are a list.
+-- A log of moves, oldest first, cut into turns. The octets of a datagram are a list; one may have come over the stream.
 use Rattle.std.specs.Prelude.{ℕ, List, [], ◌∷◌, ◌++◌}
 use Rattle.pac_ports.specs.declared.link.Move.{Move}
 use Rattle.pac_ports.specs.declared.link.Move.TheVariants as move
 use Rattle.pac_ports.specs.declared.link.Which.{Which}
+use Rattle.poll_log.specs.Flat.{flat}
 
 -- a datagram that was sent to one of the servers
 pub record Outgoing : Type 0 where
@@ -28,15 +29,20 @@ abbrev pub with_move : Turns → Move → Turns
 with_move turns (move.Sent to octets) = with_sent turns (record { to = to; octets = octets } ∷ [])
 with_move turns (move.Given octets) = Then turns (Given octets) []
 with_move turns move.Tick = Then turns Tick []
+-- no other move stands in a flat log
+with_move turns (move.StreamSent octets) = turns
+with_move turns (move.StreamFailed octets) = turns
+with_move turns (move.Piece octets) = turns
+with_move turns move.StreamEnd = turns
 
 -- with more moves
 unfoldable pub with_moves : Turns → List Move → Turns
 with_moves turns [] = turns
 with_moves turns (m ∷ moves) = with_moves (with_move turns m) moves
 
--- the turns of a log; an empty log is one turn 0
+-- the turns of a log, whichever way its datagrams came; an empty log is one turn 0
 abbrev pub turns_of : List Move → Turns
-turns_of moves = with_moves (Begin []) moves
+turns_of moves = with_moves (Begin []) (flat moves)
 
 -- all that was sent, in order
 unfoldable pub sends : Turns → List Outgoing

@@ -1,41 +1,17 @@
--- From moves to turns, states of links and numbers, one after another.
+-- Turns, states of links and numbers, one after another.
 use Rattle.std.proofs.Common.{◌≡◌, ℕ, ◌+◌, ◌<◌, List, [], ◌∷◌, ◌++◌, map, take, length, get_or, Option, Some, None, refl, sym, ◌∙◌, ap, subst, arith, append_assoc}
 use Rattle.std.proofs.lemmas.List.{append-nil, map-append, map_more, take-map}
 use Rattle.pac_ports.specs.Dice.{DiceTold}
-use Rattle.pac_ports.specs.Link.{HasGot, LinkState, LinkTold, with_moves as adding, with_open}
+use Rattle.pac_ports.specs.Link.{LinkState, LinkTold, with_moves as adding, with_open}
 use Rattle.pac_ports.specs.declared.link.Move.{Move}
 use Rattle.pac_ports.specs.declared.link.Servers.{Servers}
-use Rattle.poll_log.specs.Turns.{Outgoing, Turns, Begin, Then, Event, Given, Tick, with_moves, with_sent, turns_of}
+use Rattle.poll_log.specs.Turns.{Outgoing, Turns, Begin, Then, Event, with_sent}
 use Rattle.poll_log.specs.Questions.{drawn, firsts, asked_in, new_among, outgoing_of}
 use Rattle.poll_log.specs.declared.sending.Sending.{Sending}
-use Rattle.poll_log.proofs.Grows.{with_moves-append}
 use Rattle.poll_log.proofs.TurnLaws.{firsts-then}
-use Rattle.poll_loop.specs.Events.{event_got, move_of, sent_move}
-use Rattle.pac_ports.specs.declared.link.Got.{Got}
-use Rattle.pac_ports.specs.declared.link.Got.TheVariants as got
+use Rattle.poll_log.specs.Rounds.{sent_move}
 use Rattle.poll_loop.specs.Numbers.{GaveAll, newly_drawn}
 use Rattle.poll_loop.specs.Talks.{linked}
-
-sent_then : (h : Turns) (e : Event) (sent more : List Outgoing) → with_moves (Then h e sent) (map sent_move more) ≡ Then h e (sent ++ more)
-unfolding with_moves
-sent_then h e sent [] = ap (Then h e) (sym (append-nil sent))
-sent_then h e sent (d ∷ more) = sent_then h e (sent ++ d ∷ []) more ∙ ap (Then h e) (append_assoc sent (d ∷ []) more)
-
-sent_begin : (sent more : List Outgoing) → with_moves (Begin sent) (map sent_move more) ≡ Begin (sent ++ more)
-unfolding with_moves
-sent_begin sent [] = ap Begin (sym (append-nil sent))
-sent_begin sent (d ∷ more) = sent_begin (sent ++ d ∷ []) more ∙ ap Begin (append_assoc sent (d ∷ []) more)
-
-pub turns_begin : (sent : List Outgoing) → turns_of (map sent_move sent) ≡ Begin sent
-turns_begin sent = sent_begin [] sent
-
-event_then : (h : Turns) (e : Event) (sent : List Outgoing) → with_moves h (move_of e ∷ map sent_move sent) ≡ Then h e sent
-unfolding with_moves
-event_then h (Given d) sent = sent_then h (Given d) [] sent
-event_then h Tick sent = sent_then h Tick [] sent
-
-pub turns_more : (ms : List Move) (e : Event) (sent : List Outgoing) → turns_of (ms ++ move_of e ∷ map sent_move sent) ≡ Then (turns_of ms) e sent
-turns_more ms e sent = with_moves-append (Begin []) ms (move_of e ∷ map sent_move sent) ∙ event_then (with_moves (Begin []) ms) e sent
 
 pub sent_none : (h : Turns) → h ≡ with_sent h []
 sent_none (Begin sent) = ap Begin (sym (append-nil sent))
@@ -74,8 +50,3 @@ sent_more qs i d s low = added_more (map sent_move (take i (map outgoing_of qs))
         ∙ sym (map-append sent_move (map outgoing_of (take i qs)) (outgoing_of (get_or qs i d) ∷ []))
         ∙ ap (map sent_move) (sym (map_more outgoing_of qs i d low))
         ∙ ap (map sent_move) (sym (take-map outgoing_of (i + 1) qs))
-
--- what was received is a move of the link
-pub got_move : (old new : LinkState) (buffer : List ℕ) (g : Got) (e : Event) → HasGot old buffer g new → e ≡ event_got buffer g → new ≡ adding (move_of e ∷ []) old
-got_move old new buffer (got.Datagram n) e h k = h.1 ∙ ap (λ x. adding (move_of x ∷ []) old) (sym k)
-got_move old new buffer got.Tick e h k = h ∙ ap (λ x. adding (move_of x ∷ []) old) (sym k)

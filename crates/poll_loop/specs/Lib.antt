@@ -2,6 +2,7 @@ pub mod Events
 pub mod Counting
 pub mod Task
 pub mod Numbers
+pub mod Streams
 pub mod Talks
 pub mod Steps
 pub mod Sending

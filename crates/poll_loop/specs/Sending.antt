@@ -4,7 +4,7 @@ use Rattle.pac_ports.specs.Link.{LinkState, LinkFails, has_move, with_moves, wit
 use Rattle.pac_ports.specs.declared.link.Servers.{Servers}
 use Rattle.pac_ports.specs.declared.sink.Failed.{Failed}
 use Rattle.poll_log.specs.Turns.{Outgoing}
-use Rattle.poll_loop.specs.Events.{sent_move}
+use Rattle.poll_log.specs.Rounds.{sent_move}
 
 -- the first n of these datagrams were sent, and then the link failed
 pub record SendFails (old : LinkState) (sent : List Outgoing) (n : ℕ) (new : LinkState) : Type 0 where

@@ -12,6 +12,7 @@ mod laws;
 mod looping;
 mod poller;
 mod sending;
+mod stream;
 
 pub use beats::BeatCounter;
 pub use event::Event;

@@ -1,7 +1,7 @@
 // The loop.
 ghost use Rattle.std.specs.Prelude.{◌≡◌, ℕ, ◌+◌, ◌*◌, ◌<◌, ◌≤◌, OnOk, length, map, true};
 ghost use Rattle.pac_plan.specs.Plan.{Outside, around};
-ghost use Rattle.poll_log.specs.Turns.{turns_of};
+ghost use Rattle.poll_log.specs.Rounds.{turns_in};
 ghost use Rattle.poll_log.specs.Questions.{outgoing_of};
 ghost use Rattle.poll_log.specs.Sendings.{AreTerms};
 ghost use Rattle.poll_log.specs.Jobs.{some_wait};
@@ -11,8 +11,8 @@ ghost use Rattle.poll_loop.specs.Steps.{Began};
 ghost use Rattle.poll_loop.specs.Turning.{Polled, Reached, Turned};
 
 use crate::Poller;
-use crate::event::event_in;
 use crate::sending::send_all;
+use crate::stream::Stream;
 use pac_names::MOST_NAMES;
 use pac_ports::{Dice, Failed, Link, Servers};
 use poll_log::{FLOOD, Sending, Terms};
@@ -59,6 +59,9 @@ pub fn poll<P: Poller, N: Link, D: Dice, L: Ledger>(
     if first.is_empty() {
         return Ok(());
     }
+    let Ok(mut stream) = Stream::new(alloc) else {
+        return Err(PollError::Memory);
+    };
     let Ok(()) = open(link, upstream.servers, first) else {
         return Err(PollError::Link);
     };
@@ -66,7 +69,7 @@ pub fn poll<P: Poller, N: Link, D: Dice, L: Ledger>(
         if poller.ended() {
             return Ok(());
         }
-        match turn(alloc, poller, link, dice, runs) {
+        match turn(alloc, poller, &mut stream, link, dice, runs) {
             Ok(()) => {}
             Err(error) => return Err(error),
         }
@@ -74,32 +77,38 @@ pub fn poll<P: Poller, N: Link, D: Dice, L: Ledger>(
     Ok(())
 }
 
-// One turn: an event, and what is sent after it.
+// One turn: an event, what is sent after it, and the frame that is due then, if one is.
 fn turn<P: Poller, N: Link, D: Dice, L: Ledger>(
     alloc: Global,
     poller: &mut P,
+    stream: &mut Stream,
     link: &mut N,
     dice: &mut D,
     runs: &mut Steps<L>,
 ) -> Result<(), PollError>
     ensures turned { (talk : Talk) (old : Outside) (count : ℕ) →
-        (r : Reached talk (P.stands poller.old talk.task) old (N.state link.old) (D.told dice.old) runs.old count) →
-        some_wait talk.task.terms talk.task.jobs (turns_of r.moves) ≡ true →
-        Turned talk (P.stands poller.new talk.task) old result
+        (r : Reached talk (P.stands poller.old talk.task) old stream.old (N.state link.old) (D.told dice.old) runs.old count) →
+        some_wait talk.task.terms talk.task.jobs (turns_in r.rounds) ≡ true →
+        Turned talk (P.stands poller.new talk.task) old result stream.new
         (N.state link.new) (D.told dice.new) runs.new (count + 1) }
     ensures kept { OnOk result (P.kept poller.new ≡ P.kept poller.old) }
 {
     let mut buffer = [0; 512];
-    let Ok(got) = link.receive(&mut buffer) else {
+    let Ok(got) = link.receive(&mut buffer, stream.reader.wanted()) else {
         return Err(PollError::Link);
     };
-    let Ok(sent) = poller.step(alloc, event_in(&buffer, got), dice, runs) else {
+    stream.take(&buffer, got);
+    let due = stream.due(poller, &buffer, got);
+    let Ok(sent) = poller.step(alloc, stream.event(&buffer, got), dice, runs) else {
         return Err(PollError::Memory);
     };
     let Ok(()) = send_all(link, &sent) else {
         return Err(PollError::Link);
     };
-    Ok(())
+    match due {
+        Some(question) => stream.send(link, question),
+        None => Ok(()),
+    }
 }
 
 // Opens the link to the servers, and sends the first questions.

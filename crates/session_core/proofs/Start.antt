@@ -1,5 +1,5 @@
 -- What has begun stands for the log of the first sends, and what is said of sessions is what the log says.
-use Rattle.std.proofs.Common.{Bool, ◌≡◌, ℕ, ◌+◌, ◌<◌, true, false, List, [], ◌∷◌, get_or, length, map, Option, inl, refl, sym, ◌∙◌, ap, subst, arith, ◌≤◌}
+use Rattle.std.proofs.Common.{Bool, ◌≡◌, ℕ, ◌+◌, ◌<◌, true, false, List, [], ◌∷◌, get_or, length, map, Option, None, inl, refl, sym, ◌∙◌, ap, subst, arith, ◌≤◌}
 use Rattle.std.specs.FinMap as finite
 use Rattle.std.specs.Ordering.{nat_cmp}
 use Rattle.std.specs.Cmp.Lexicographic.{slice_cmp}
@@ -14,9 +14,12 @@ use Rattle.pac_ports.specs.Dice.{DiceTold}
 use Rattle.poll_log.specs.declared.question.Question.{Question}
 use Rattle.poll_log.specs.declared.terms.Terms.{Terms}
 use Rattle.poll_log.specs.Sendings.{AreTerms}
+use Rattle.poll_log.specs.Flat.{flat_behind}
 use Rattle.poll_log.specs.Turns.{Outgoing, Turns, Begin, with_moves}
 use Rattle.poll_log.specs.Beats.{last_stretch, stretches}
 use Rattle.poll_log.specs.Questions.{IsQuestion, asked_in, first_sending, first_sent, firsts, names_of, new_among, outgoing_of}
+use Rattle.poll_log.specs.Rounds.{Opening, moves_of}
+use Rattle.poll_log.specs.Streamed.{AreFramed}
 use Rattle.poll_log.specs.Told.{Map, is_dead, told}
 use Rattle.poll_log.specs.Jobs.{IsFinished, IsOwed, Job, once, runs_of, wanted, some_wait}
 use Rattle.poll_log.specs.Laws.{IsRestartable}
@@ -218,15 +221,18 @@ all_ended {R = R} {Out = Out} gives tree all sessions lookups t jobs h runs s e 
 module _ (upstream : Upstream) (all : List Job) (old : Outside) where
   -- memory ran out before anything was sent
   pub not_sent : AreTerms upstream.terms → All AsksLookupNames all → (dice : Option DiceTold) (runs : ℕ) → GaveSome old.dice dice → runs ≤ old.runs + length all → Talked (talk_of upstream all) old unfinished [] (record old { dice = dice; runs = runs })
-  unfolding firsts new_among with_moves
+  unfolding firsts new_among with_moves flat_behind AreFramed moves_of
   not_sent terms named dice runs drew low =
       let count : all_runs upstream.terms all (Begin []) ≡ length all = runs_begin upstream.terms all [] in
       record {
         files = refl;
         clock = refl;
         few = few_none upstream.terms;
+        streams = refl;
         ends = inl (record {
           cut = cut_begin upstream.terms all terms.waits terms.tried named;
+          owed = None;
+          streamed = record { rounds = Opening []; moves = refl; framed = refl };
           link = refl;
           drew = drew;
           ran = omega arith;

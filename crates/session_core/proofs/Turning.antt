@@ -16,7 +16,7 @@ use Rattle.poll_log.specs.Turns.{Outgoing, Turns, Then, Event, Given, Tick}
 use Rattle.poll_log.specs.Beats.{is_beat}
 use Rattle.poll_log.specs.Questions.{IsQuestion, asked_in, first_sending, firsts, has_name, names_of, new_among, outgoing_of, questions}
 use Rattle.poll_log.specs.Told.{Map, age, is_dead, told}
-use Rattle.poll_log.specs.Moment.{dead_in}
+use Rattle.poll_log.specs.Moment.{dead_in, flights_of}
 use Rattle.poll_log.specs.Jobs.{IsOwed, Job, SendsOwed, once, runs_of, some_wait, told_to, waits_unless, wanted}
 use Rattle.poll_log.proofs.Bounds.{want_sent}
 use Rattle.poll_log.proofs.Counts.{seen_filter}
@@ -28,7 +28,7 @@ use Rattle.poll_log.specs.Told as log
 use Rattle.stub_poller.specs.State.{StubState, beaten, dying, resent}
 use Rattle.stub_poller.specs.Shows.{Shows}
 use Rattle.stub_poller.specs.Driven.{asking_all, beaten_if, driven, receiving}
-use Rattle.stub_poller.proofs.Driving.{asked_all_show, driven_shows, driven_terms}
+use Rattle.stub_poller.proofs.Driving.{asked_all_show, driven_flights, driven_shows, driven_terms}
 use Rattle.stub_poller.proofs.Ages as ages
 use Rattle.stub_poller.proofs.Falling.{again_falls, again_if}
 use Rattle.poll_loop.specs.Counting.{HasCounted}
@@ -385,6 +385,12 @@ module _ {R Out End : Type 0} (gives : Out → End → List (List ℕ) → Type 
       ap (λ x. dead_of x m) s.flying
       ∙ (driven_shows lookups.stub.terms h (ages.lasts lookups.stub.terms s.ranges.waits s.ranges.tried)).dying m
       ∙ ap (λ x. dead_in (limit x) (told lookups.stub.terms h) (age h) (firsts h) m) (driven_terms lookups.stub.terms h))
+
+  pub flights_are : lookups.stub.flights ≡ flights_of task.terms h
+  flights_are =
+      ap (λ (x : StubState). x.flights) s.flying
+      ∙ driven_flights lookups.stub.terms h (ages.lasts lookups.stub.terms s.ranges.waits s.ranges.tried)
+      ∙ sym (ap (λ (x : Task). flights_of x.terms h) s.same)
 
   pub waits_is : list_any (λ x. is_waiting x.progress) sessions ≡ some_wait task.terms task.jobs h
   waits_is =

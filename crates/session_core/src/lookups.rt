@@ -1,12 +1,13 @@
 // What is known of names.
 ghost use Rattle.std.specs.Prelude.{◌≡◌, IfOk, OnOk};
 ghost use Rattle.poll_log.specs.Sendings.{AreTerms};
+ghost use Rattle.poll_log.specs.Streamed.{truncated_in};
 ghost use Rattle.poll_loop.specs.Events.{event_of};
 ghost use Rattle.session_core.specs.Lookups.{found_at, hearing, new_lookups, told_name, with_answer};
 
 use answer_table::AnswerTable;
 use pac_names::{Answer, LookupName};
-use poll_log::Terms;
+use poll_log::{Question, Terms};
 use poll_loop::{BeatCounter, Event};
 use std::alloc::Global;
 use stub_poller::Stub;
@@ -32,6 +33,13 @@ impl Lookups {
             stub: Stub::new(alloc, terms.wait, terms.tries),
             beats: BeatCounter::new(),
         }
+    }
+
+    /// The question in flight to which the datagram is the truncated response, if it is one to any.
+    pub(crate) fn truncated(&self, datagram: &[u8]) -> Option<Question>
+        ensures { result ≡ truncated_in self.now.stub.flights datagram.now }
+    {
+        self.stub.truncated(datagram)
     }
 
     /// Takes the answer that an event gives, if it gives one, and says for which name.

@@ -14,7 +14,7 @@ use crate::lookups::Lookups;
 use crate::session::{outcome_of, some_wait, without_outcome};
 use crate::{Run, Session, SessionState};
 use pac_ports::Dice;
-use poll_log::{Sending, Terms};
+use poll_log::{Question, Sending, Terms};
 use poll_loop::{Event, Poller};
 use std::alloc::Global;
 use std::sync::ledger::Ledger;
@@ -115,6 +115,10 @@ impl<R: Run> Poller for Core<R> {
 
     fn ended(&self) -> bool {
         !some_wait(&self.sessions)
+    }
+
+    fn truncated(&self, datagram: &[u8]) -> Option<Question> {
+        self.lookups.truncated(datagram)
     }
 
     fn step<D: Dice, L: Ledger>(

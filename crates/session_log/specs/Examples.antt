@@ -17,6 +17,7 @@ use Rattle.dns_message.specs.Record.{record_at, facts_at}
 use Rattle.dns_message.specs.Reply.{reply_of, answer_on}
 use Rattle.poll_log.specs.declared.question.Question.{Question}
 use Rattle.poll_log.specs.declared.terms.Terms.{Terms}
+use Rattle.poll_log.specs.Flat.{flat_behind}
 use Rattle.poll_log.specs.Turns.{Turns, Begin, Then, turns_of, with_moves}
 use Rattle.poll_log.specs.Turns as event
 use Rattle.poll_log.specs.Beats.{beats, ticks, stretches, is_beat}
@@ -99,7 +100,7 @@ abbrev pub shared : List Move
 shared = Sent First (octets_of question_a) ∷ Given one_two ∷ []
 
 pub shared-runs : all_runs usual (job_of (asks a) ∷ job_of (asks a) ∷ []) (turns_of shared) ≡ 4
-unfolding runs_of told accepted accepted_in age firsts new_among asked_by question_octets with_moves is_beat beats ticks stretches number_in reply_of name_at name_from part_at record_at facts_at answer_on asked_from
+unfolding runs_of told accepted accepted_in age firsts new_among asked_by question_octets with_moves flat_behind is_beat beats ticks stretches number_in reply_of name_at name_from part_at record_at facts_at answer_on asked_from
 shared-runs = refl
 
 -- ---- two sessions over two names, answered in turned order
@@ -112,7 +113,7 @@ turned_turns =
     Then (Then (Begin (first_sent (question_a ∷ question_b ∷ []))) (event.Given two_of_b) []) (event.Given one_two) []
 
 pub turned-is : turns_of turned ≡ turned_turns
-unfolding with_moves
+unfolding with_moves flat_behind
 turned-is = refl
 
 pub turned-runs : all_runs usual (job_of (asks a) ∷ job_of (asks b) ∷ []) turned_turns ≡ 4

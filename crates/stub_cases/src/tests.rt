@@ -16,6 +16,13 @@ const REPLY: [u8; 45] = [
     0x01, 0x00, 0x01, 0x00, 0x00, 0x00, 0x3c, 0x00, 0x04, 0x5d, 0xb8, 0xd8, 0x22,
 ];
 
+// The same with TC set: what fits of it was sent.
+const TRUNCATED: [u8; 45] = [
+    0x12, 0x34, 0x83, 0x80, 0x00, 0x01, 0x00, 0x01, 0x00, 0x00, 0x00, 0x00, 0x07, 0x65, 0x78, 0x61,
+    0x6d, 0x70, 0x6c, 0x65, 0x03, 0x63, 0x6f, 0x6d, 0x00, 0x00, 0x01, 0x00, 0x01, 0xc0, 0x0c, 0x00,
+    0x01, 0x00, 0x01, 0x00, 0x00, 0x00, 0x3c, 0x00, 0x04, 0x5d, 0xb8, 0xd8, 0x22,
+];
+
 const ADDRESS: Answer = Answer::Address(0x5db8d822);
 
 // A reply for www.example.com under the number 1: an address of web.example.com, and behind it the record that www is
@@ -105,11 +112,10 @@ fn repeats_and_deaths(rt: HostRuntime) -> Result<(), Fail> {
     Ok(())
 }
 
-// The reply with octets from an offset on replaced.
-fn changed(at: usize, octets: &[u8]) -> [u8; 45]
+// A datagram with octets from an offset on replaced.
+fn replaced(mut datagram: [u8; 45], at: usize, octets: &[u8]) -> [u8; 45]
     requires { at + length octets.now ≤ 45 }
 {
-    let mut datagram = REPLY;
     datagram[at..at + octets.len()].copy_from_slice(octets);
     datagram
 }
@@ -148,12 +154,84 @@ fn forged_replies(rt: HostRuntime) -> Result<(), Fail> {
             4,
             &[(b"b.example", 0x1235), (b"example.com", 0x1234)],
         )?;
-        let answer = stub.on_datagram(&changed(at, octets)).map(|found| found.1);
+        let answer = stub
+            .on_datagram(&replaced(REPLY, at, octets))
+            .map(|found| found.1);
         assert_eq!(rt; answer, want, "{octets:?} at {at}");
         assert_eq!(rt; stub.in_flight(&example), want.is_none());
         assert_eq!(rt; stub.on_datagram(&REPLY).is_some(), want.is_none());
         assert!(rt; stub.in_flight(&name(b"b.example")?));
     }
+    Ok(())
+}
+
+// The reply with TC set, and some octets changed behind that: whether it is then the truncated response to the one of two
+// questions in flight that it was for (RFC 1035, section 4.1.1). It is one to no other, and takes nothing out of flight.
+#[test]
+fn truncated_replies(rt: HostRuntime) -> Result<(), Fail> {
+    let alloc = rt.alloc();
+    let asked: [(&[u8], u16); 2] = [(b"b.example", 0x1235), (b"example.com", 0x1234)];
+    let stub = asking(alloc, 10, 4, &asked)?;
+    for (at, octets, want) in [
+        // as it is, with a name in upper case, with a server's failure and a name error, and with no record
+        (2, b"\x83\x80".as_slice(), Some(0x1234)),
+        (13, b"EXAMPLE\x03Com", Some(0x1234)),
+        (3, b"\x82", Some(0x1234)),
+        (3, b"\x83", Some(0x1234)),
+        (6, b"\x00\x00", Some(0x1234)),
+        // a whole response, a query, another opcode, no question and two
+        (2, b"\x81", None),
+        (2, b"\x03", None),
+        (2, b"\x93", None),
+        (4, b"\x00\x00", None),
+        (4, b"\x00\x02", None),
+        // the number of the other question, and a number that was never drawn
+        (0, b"\x12\x35", None),
+        (0, b"\x00\x00", None),
+        // another name, another type, another class
+        (13, b"f", None),
+        (25, b"\x00\x1c", None),
+        (27, b"\x00\x03", None),
+    ] {
+        assert!(rt; at <= 30);
+        assert!(rt; octets.len() <= 15);
+        let number = stub
+            .truncated(&replaced(TRUNCATED, at, octets))
+            .map(|question| question.id);
+        assert_eq!(rt; number, want, "{octets:?} at {at}");
+    }
+    Ok(())
+}
+
+// How many of its octets the truncated reply has, and whether it is a truncated response then: its question ends at 29.
+// It is none where the name is answered, or dead.
+#[test]
+fn cut_and_late_truncated_replies(rt: HostRuntime) -> Result<(), Fail> {
+    let alloc = rt.alloc();
+    let example = name(b"example.com")?;
+    let mut stub = asking(alloc, 1, 1, &[(b"example.com", 0x1234)])?;
+    for (end, want) in [
+        (0, false),
+        (1, false),
+        (11, false),
+        (12, false),
+        (28, false),
+        (29, true),
+        (45, true),
+    ] {
+        assert!(rt; end <= 45);
+        let question = stub.truncated(&TRUNCATED[..end]);
+        assert_eq!(rt; question.is_some(), want, "{end}");
+    }
+    let question = stub.truncated(&TRUNCATED).ok_or("a question")?;
+    assert!(rt; question.name == example);
+    assert!(rt; stub.on_datagram(&TRUNCATED).is_none());
+    assert!(rt; stub.on_datagram(&REPLY).is_some());
+    assert!(rt; stub.truncated(&TRUNCATED).is_none());
+
+    let mut late = asking(alloc, 1, 1, &[(b"example.com", 0x1234)])?;
+    assert_eq!(rt; late.on_beat().dead.len(), 1);
+    assert!(rt; late.truncated(&TRUNCATED).is_none());
     Ok(())
 }
 

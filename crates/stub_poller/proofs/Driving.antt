@@ -10,7 +10,7 @@ use Rattle.poll_log.specs.Beats.{is_beat}
 use Rattle.poll_log.specs.Questions.{asked_in, firsts, has_name, new_among, was_sent}
 use Rattle.poll_log.specs.Sendings.{limit}
 use Rattle.poll_log.specs.Told.{Map, accepted, age, or_else, told}
-use Rattle.poll_log.specs.Moment.{dead_in, older}
+use Rattle.poll_log.specs.Moment.{dead_in, flights_in, flights_of, older}
 use Rattle.poll_log.proofs.Names.{AllNew, has_name-append, new_among-is_new, or-left}
 use Rattle.poll_log.proofs.Asking.{firsts_named}
 use Rattle.poll_log.proofs.TurnLaws.{accepted_unsent, age-begin, age_next, age_unsent, distinct, firsts-begin, firsts-then, told-begin, told_next, told_unsent, unsent_before}
@@ -110,3 +110,7 @@ driven_shows t (Then h e sent) p =
     let asked = asked_all_show (new_among (firsts h) (asked_in sent)) (receiving e (driven t h)) (told t (Then h e sent)) (age h) (firsts h) shown (new_among-is_new (firsts h) (asked_in sent)) (untold_next t h e sent) in
     beat h e sent (is_beat h e) refl (asking_all (new_among (firsts h) (asked_in sent)) (receiving e (driven t h))) (told t (Then h e sent))
     (subst (Shows (asking_all (new_among (firsts h) (asked_in sent)) (receiving e (driven t h))) (told t (Then h e sent)) (age h)) (sym (firsts-then h e sent)) asked)
+
+-- what is in flight for it is what is in flight after the log
+pub driven_flights : (t : Terms) (h : Turns) → 0 < limit t → (driven t h).flights ≡ flights_of t h
+driven_flights t h p = (driven_shows t h p).flying ∙ ap (λ x. flights_in (limit x) (told t h) (age h) (firsts h)) (driven_terms t h)

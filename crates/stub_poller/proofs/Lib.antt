@@ -3,3 +3,4 @@ pub mod FlightLists
 pub mod Showing
 pub mod Driving
 pub mod Falling
+pub mod Truncating

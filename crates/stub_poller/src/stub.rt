@@ -19,7 +19,9 @@ ghost use Rattle.std.specs.Prelude.{
 ghost use Rattle.std.specs.List.{All, HoldsAt, filter};
 ghost use Rattle.std.specs.Borrow.{sem};
 ghost use Rattle.dns_message.specs.Numbers.{number_at};
+ghost use Rattle.dns_message.specs.Truncation.{is_truncated};
 ghost use Rattle.poll_log.specs.declared.terms.TheConstants.{MOST_TRIES, MOST_WAIT};
+ghost use Rattle.poll_log.specs.Streamed.{truncated_in};
 ghost use Rattle.stub_poller.specs.State.{
   aged,
   answer_to,
@@ -35,7 +37,7 @@ ghost use Rattle.stub_poller.specs.State.{
 };
 
 use crate::report::{BeatReport, add_deaths, list_deaths, list_resends};
-use dns_message::read_reply;
+use dns_message::{read_reply, truncated};
 use pac_names::{Answer, LookupName};
 use poll_log::{Flight, Question, Terms};
 use std::alloc::Global;
@@ -115,6 +117,14 @@ impl Stub {
         Some((flight.question.name, found.answer))
     }
 
+    /// The question in flight to which the datagram is the truncated response, the first where it is one to more.
+    /// Nothing where it is one to no question in flight.
+    pub fn truncated(&self, datagram: &[u8]) -> Option<Question>
+        ensures { result ≡ truncated_in self.now.flights datagram.now }
+    {
+        first_truncated(&self.flights, datagram)
+    }
+
     /// Counts a beat, and gives what is to be sent again and what is dead.
     pub fn on_beat(&mut self) -> &BeatReport
         ensures* after { sem 𝓛 (EndsBeaten self.entry) }
@@ -191,6 +201,28 @@ fn answer_under(datagram: &[u8], id: u16, flight: &Flight) -> Option<Answer>
     } else {
         None
     }
+}
+
+// The first question in flight to which the datagram is the truncated response. Its number is looked at first, as that of
+// a reply is.
+fn first_truncated(flights: &[Flight], datagram: &[u8]) -> Option<Question>
+    ensures { result ≡ truncated_in flights.now datagram.now }
+{
+    let id = number_of(datagram)?;
+    for flight in flights {
+        if is_cut_under(datagram, id, flight) {
+            return Some(flight.question.copy());
+        }
+    }
+    None
+}
+
+// Whether a datagram with this number is the truncated response to a question in flight.
+fn is_cut_under(datagram: &[u8], id: u16, flight: &Flight) -> bool
+    requires { id ≡ number_at datagram.now 0 }
+    ensures { result ≡ is_truncated datagram.now flight.now.question.id flight.now.question.name }
+{
+    flight.question.id == id && truncated(datagram, id, &flight.question.name)
 }
 
 fn grow_older(flights: &mut Vec<Flight>)

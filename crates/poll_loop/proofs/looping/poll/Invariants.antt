@@ -13,6 +13,6 @@ invariant-loop-turn g l =
       reached :
           (talk : Talk) (old : Outside) → talk.servers ≡ l.fn.upstream.servers → talk.task.terms ≡ l.fn.upstream.terms → old.link ≡ g.N.Link.state l.fn.link
           → Began (g.P.Poller.stands l.fn.poller talk.task) talk.task (map outgoing_of l.fn.first) old (g.D.Dice.told l.fn.dice) l.fn.runs
-          → Reached talk (g.P.Poller.stands l.poller talk.task) old (g.N.Link.state l.link) (g.D.Dice.told l.dice) l.runs l._turn;
+          → Reached talk (g.P.Poller.stands l.poller talk.task) old l.stream (g.N.Link.state l.link) (g.D.Dice.told l.dice) l.runs l._turn;
       kept : g.P.Poller.kept l.poller ≡ g.P.Poller.kept l.fn.poller;
     }

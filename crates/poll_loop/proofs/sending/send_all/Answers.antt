@@ -2,7 +2,7 @@ use Rattle.std.proofs.Common.{◌≡◌, ◌<◌, false, [], ◌∷◌, ap, ◌�
 use Rattle.std.proofs.lemmas.List.{length-map}
 use Rattle.std.proofs.lemmas.Result.{err_from_is_err_and}
 use Rattle.pac_ports.specs.Link.{LinkFails, LinkState, has_move, with_moves}
-use Rattle.poll_loop.specs.Events.{sent_move}
+use Rattle.poll_log.specs.Rounds.{sent_move}
 use Rattle.poll_log.specs.Questions.{outgoing_of}
 use Rattle.poll_loop.specs.Sending.{SendFails}
 use Rattle.poll_loop.proofs.Logs.{sent_more}

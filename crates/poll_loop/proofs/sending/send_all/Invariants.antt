@@ -1,6 +1,6 @@
 use Rattle.std.proofs.Common.{◌≡◌, map, take}
 use Rattle.pac_ports.specs.Link.{with_moves}
-use Rattle.poll_loop.specs.Events.{sent_move}
+use Rattle.poll_log.specs.Rounds.{sent_move}
 use Rattle.poll_log.specs.Questions.{outgoing_of}
 use Rattle.poll_loop.proofs.sending.send_all.Given as goal
 

@@ -9,5 +9,6 @@ invariant_of-result g c = (
   omega (arith, c.in_ok-with_capacity-2.ensures.len),
   c.in_ok-with_capacity-2.ensures.capacity,
   omega arith,
+  omega arith,
   rw (c.in_ok-with_capacity.ensures.items, c.in_ok-with_capacity-2.ensures.items) (kept_new _ _ c.requires),
 )

@@ -14,14 +14,15 @@ invariant_of-self g c =
       c.self.invariant.2,
       c.self.invariant.3,
       c.self.invariant.4,
-      rw c.push_reserved.ensures.items (kept_tick _ _ _ _ _ c.self.invariant.5 (slice_get_past _ _ past)),
+      c.self.invariant.5,
+      rw c.push_reserved.ensures.items (kept_tick _ _ _ _ _ c.self.invariant.6 (slice_get_past _ _ past)),
     )
 
 pub returns-then-self-len-clause-exactly : goal.returns-then-self-len-clause-exactly
 returns-then-self-len-clause-exactly g c =
     let past : length c.self.inside.replies.items ≤ c.self.inside.given = omega (arith, c.self.inside.replies.ok.0, c.len-2.ensures, c.if-self-len.true) in
     let room : length c.self.inside.log.items < MOST_MOVES = omega (arith, c.self.inside.log.ok.0, c.len.ensures, c.if-len-ge-MOST_MOVES.false) in
-    received_tick _ _ _ _ _ _ _ _ _ _ _ c.self.view_is c.push_reserved.ensures.items room c.self.invariant.5 past
+    received_tick _ _ _ _ _ _ _ _ _ _ _ _ c.self.view_is c.push_reserved.ensures.items room c.self.invariant.6 past
 
 pub invariant_of-self-2 : goal.invariant_of-self-2
 invariant_of-self-2 g c =
@@ -32,7 +33,8 @@ invariant_of-self-2 g c =
       c.self.invariant.2,
       c.self.invariant.3,
       c.self.invariant.4,
-      rw (c.push_reserved-2.ensures.items, c.new-reply.ensures, c.as_slice-octets.ensures.value) (kept_given _ _ _ _ _ _ c.self.invariant.5 due),
+      c.self.invariant.5,
+      rw (c.push_reserved-2.ensures.items, c.new-reply.ensures, c.as_slice-octets.ensures.value) (kept_given _ _ _ _ _ _ c.self.invariant.6 due),
     )
 
 pub returns-clause-exactly : goal.returns-clause-exactly
@@ -42,5 +44,5 @@ returns-clause-exactly g c =
     let octets : slice_get c.self.inside.replies.items c.self.inside.given ≡ Some c.as_slice-octets.result.now = due ∙ ap Some (sym c.as_slice-octets.ensures.value) in
     let room : length c.self.inside.log.items < MOST_MOVES = omega (arith, c.self.inside.log.ok.0, c.len.ensures, c.if-len-ge-MOST_MOVES.false) in
     let moves = c.push_reserved-2.ensures.items ∙ ap (λ (xs : List ℕ). c.self.inside.log.items ++ move.Given xs ∷ []) c.new-reply.ensures in
-    received_reply _ _ _ _ _ _ _ _ _ _ _ _ _ c.self.view_is moves room c.self.invariant.5 octets
+    received_reply _ _ _ _ _ _ _ _ _ _ _ _ _ _ c.self.view_is moves room c.self.invariant.6 octets
     (ap (λ (xs : List ℕ). xs ++ drop (length c.as_slice-octets.result.now) c.args.buffer.now) c.copy_from_slice.ensures.after)

@@ -9,5 +9,6 @@ invariant_of-self g c = (
   c.keep_reply.ensures.within,
   c.keep_reply.ensures.room,
   c.self.invariant.4,
-  rw (c.push_reserved.ensures.items, c.new-octets.ensures) (kept_sent _ _ _ _ _ _ _ _ c.self.invariant.5 c.keep_reply.ensures.kept),
+  c.self.invariant.5,
+  rw (c.push_reserved.ensures.items, c.new-octets.ensures) (kept_sent _ _ _ _ _ _ _ _ c.self.invariant.6 c.keep_reply.ensures.kept),
 )
