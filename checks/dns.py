@@ -30,6 +30,9 @@ cname=www.example,web.example
 cname=web.example,a.example
 txt-record=text.example,words
 """
+# the addresses of a name, which don't fit a datagram, so that they come over TCP
+MANY = [f"10.0.0.{last}" for last in range(1, 61)]
+CONFIGURATION += "".join(f"host-record=many.example,{address}\n" for address in MANY)
 # what is asked, what is written, the status
 ASKED = [
     ("a.example", b"address 10.1.2.3\n", 0),
@@ -91,10 +94,23 @@ def with_dnsmasq(failures):
                 compare(failures, f"ask {name}", ask(port, name), (text, status))
             found = ask(free_port(), "a.example", second(port), "--wait=1", "--tries=8")
             compare(failures, "ask the second", found, (b"address 10.1.2.3\n", 0))
+            ask_for_many(failures, port)
         finally:
             server.terminate()
             server.wait(timeout=10)
-    return len(ASKED) + 1
+    return len(ASKED) + 3
+
+
+def ask_for_many(failures, port):
+    """The server chooses which of the addresses comes first."""
+    with socket.socket(socket.AF_INET, socket.SOCK_DGRAM) as near:
+        near.settimeout(10)
+        near.connect(("127.0.0.1", port))
+        near.send(question(7).replace(NAME, b"\x04many" + NAME[2:]))
+        compare(failures, "the server truncates", near.recv(512)[2] & 2, 2)
+    found, status = ask(port, "many.example")
+    is_one = found.decode().strip() in [f"address {address}" for address in MANY]
+    compare(failures, "ask for many", (is_one, status), (True, 0))
 
 
 def wait_for(port):

@@ -8,9 +8,9 @@ use std::alloc::Global;
 // The room of a link for moves, where none is said.
 const ROOM: usize = 20_000;
 
-/// A link over which these events come, which are parted by blanks: one of `tick`, `empty` and `end` with `*N` behind it
-/// for so many of them; a datagram; or `piece:` and a datagram, whose octets come over the stream. Behind `fails:` stands
-/// the number of a call that fails. The room for moves is said by `room:N` before all.
+/// A link over which these events come, parted by blanks: one of `tick`, `empty` and `end` with `*N` behind it for so
+/// many of them; a datagram; or `piece:` and a datagram, whose octets come over the stream. Behind `fails:` stands the
+/// number of a call that fails. The room for moves is said by `room:N` before all.
 pub(crate) fn link_over(alloc: Global, coming: &str) -> Result<MemoryLink> {
     let (room, events) = room_in(coming)?;
     let mut link = MemoryLink::new(alloc, room)?;
