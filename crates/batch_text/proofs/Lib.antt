@@ -3,3 +3,4 @@ pub mod Cuts
 mod Examples
 pub mod Moments
 pub mod Texts
+pub mod Telling

@@ -1,12 +1,17 @@
--- A file of names: in each line a lookup name, and its address or `-`.
+-- A file of names: in each line a lookup name, and an address of it or `-`. A name may have a line for each family of
+-- addresses.
 use Rattle.std.specs.Prelude.{◌≡◌, ℕ, ◌+◌, List, [], ◌∷◌, if◌then◌else◌, Option, Some, is_some, option_map, Result, Ok, Err, bytes_eq, codes}
 use Rattle.std.specs.FinMap as map
+use Rattle.std.specs.Option.{option_or}
 use Rattle.std.specs.Str.{is_utf8}
 use Rattle.pac_names.specs.declared.answer.Answer.{Answer}
-use Rattle.pac_names.specs.declared.answer.Answer.TheVariants.{Address, NoAddress}
-use Rattle.pac_names.specs.Names.{lookup_name_of}
+use Rattle.pac_names.specs.declared.answer.Answer.TheVariants.{Address, Address6, NoAddress}
+use Rattle.pac_names.specs.declared.kind.NameKind.{NameKind}
+use Rattle.pac_names.specs.declared.kind.NameKind.TheVariants.{V4, V6}
+use Rattle.pac_names.specs.Names.{Name, lookup_name_of}
 use Rattle.pac_names.specs.Quads.{quad_of}
-use Rattle.js_host.specs.Answers.{Name, AnswerMap}
+use Rattle.pac_ext.specs.Reading.{ipv6_of}
+use Rattle.js_host.specs.Answers.{AnswerMap}
 use Rattle.batch_text.specs.declared.names.NamesKind.{NamesKind}
 use Rattle.batch_text.specs.declared.names.NamesKind.TheVariants.{BadLine, Twice}
 use Rattle.batch_text.specs.declared.names.NamesAnswer.{NamesAnswer}
@@ -19,12 +24,23 @@ pub data NamesLine : Type 0 where
   Entry : Name → Answer → NamesLine
   Bad : NamesLine
 
--- `-`, or a dotted quad
-abbrev pub answer_of : List ℕ → Option Answer
-answer_of rest = if bytes_eq rest (codes "-") then Some NoAddress else option_map Address (quad_of rest)
+-- the address of a dotted quad or of an IPv6 text
+abbrev pub address_of : List ℕ → Option Answer
+address_of text = option_or (option_map Address (quad_of text)) (option_map Address6 (ipv6_of text))
 
+-- `-`, or an address
+abbrev pub answer_of : List ℕ → Option Answer
+answer_of rest = if bytes_eq rest (codes "-") then Some NoAddress else address_of rest
+
+-- the family that an answer is of; `-` is said of IPv4
+abbrev pub kind_of : Answer → NameKind
+kind_of (Address address) = V4
+kind_of (Address6 address) = V6
+kind_of NoAddress = V4
+
+-- the answer is that of the name which asks for its family
 abbrev pub entry_of : Option Name → Option Answer → NamesLine
-entry_of (Some name) (Some answer) = Entry name answer
+entry_of (Some name) (Some answer) = Entry (record name { kind = kind_of answer }) answer
 entry_of _ _ = Bad
 
 abbrev pub text_line : List ℕ → NamesLine
@@ -39,7 +55,7 @@ line_of line = if is_utf8 line then text_line line else Bad
 abbrev pub NamesRead : Type 0
 NamesRead = Result AnswerMap (NamesKind × ℕ)
 
--- a name that stands in an earlier line is refused
+-- a name that stands in an earlier line of the same family is refused
 abbrev pub entered : AnswerMap → Name → Answer → ℕ → (AnswerMap → NamesRead) → NamesRead
 entered known name answer number next =
     if is_some (map.get known name) then Err (Twice, number) else next (map.insert known name answer)

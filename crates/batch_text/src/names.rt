@@ -1,23 +1,24 @@
 // Files of names.
 ghost use Rattle.std.specs.Prelude.{◌≡◌, ◌≤◌, IfOk, length};
 ghost use Rattle.pac_names.specs.Names.{lookup_name_of};
-ghost use Rattle.batch_text.specs.Names.{ReadsNames, names_in, answer_of, line_of, text_line};
+ghost use Rattle.batch_text.specs.Names.{ReadsNames, names_in, address_of, answer_of, kind_of, line_of, text_line};
 ghost use Rattle.batch_text.specs.Entering.{Enters, said};
 ghost use Rattle.utf16_text.specs.declared.limits.TheConstants.{LONGEST_FILE};
 
 use crate::lines::{rest, says_nothing, text_of, word};
 use answer_table::AnswerTable;
 use bstr::ByteSlice;
-use pac_names::{Answer, LookupName, quad};
+use pac_ext::quad6;
+use pac_names::{Answer, LookupName, NameKind, quad};
 use std::alloc::Global;
 use utf16_text::{Memory, Text};
 
 /// Why a line of a file of names is refused.
 #[derive(Clone, Copy, Debug, PartialEq, Eq)]
 pub enum NamesKind {
-    /// It is no UTF-8, or not a lookup name, blanks, and a dotted quad or `-`.
+    /// It is no UTF-8, or not a lookup name, blanks, and a dotted quad, an IPv6 text or `-`.
     BadLine,
-    /// Its name stands in an earlier line.
+    /// Its name stands in an earlier line of the same family.
     Twice,
 }
 
@@ -42,14 +43,14 @@ impl From<Memory> for NamesAnswer {
 
 /// What a line says.
 #[derive(Drop)]
-enum Line {
+pub(crate) enum Line {
     Nothing,
     Entry(LookupName, Answer),
     Bad,
 }
 
-/// The answers that a file tells, in each line a lookup name, blanks, and a dotted quad or `-` for no address. A line
-/// that is blank or begins with `#` says nothing.
+/// The answers that a file tells, in each line a lookup name, blanks, and a dotted quad, an IPv6 text, or `-` for no
+/// IPv4 address. A name may have a line for each family. A line that is blank or begins with `#` says nothing.
 pub fn read_names(alloc: Global, bytes: &[u8]) -> Result<AnswerTable, NamesAnswer>
     requires { length bytes.now ≤ LONGEST_FILE }
     ensures { ReadsNames result (names_in bytes.now) }
@@ -85,7 +86,7 @@ fn enter(
     }
 }
 
-fn line_of(alloc: Global, line: &[u8]) -> Result<Line, Memory>
+pub(crate) fn line_of(alloc: Global, line: &[u8]) -> Result<Line, Memory>
     ensures { IfOk result (λ l. said l ≡ line_of line.now) }
 {
     match text_of(line) {
@@ -102,7 +103,7 @@ fn text_line(alloc: Global, line: &str) -> Result<Line, Memory>
     }
     let answer = answer_of(alloc, rest(line))?;
     match (LookupName::from_bytes(word(line).as_bytes()), answer) {
-        (Some(name), Some(answer)) => Ok(Line::Entry(name, answer)),
+        (Some(name), Some(answer)) => Ok(Line::Entry(name.with_kind(kind_of(answer)), answer)),
         _ => Ok(Line::Bad),
     }
 }
@@ -113,6 +114,25 @@ fn answer_of(alloc: Global, rest: &str) -> Result<Option<Answer>, Memory>
     if rest == "-" {
         return Ok(Some(Answer::NoAddress));
     }
-    let text = Text::from_latin_1(alloc, rest.as_bytes())?;
-    Ok(quad(&text).map(Answer::Address))
+    Ok(address_of(&Text::from_latin_1(alloc, rest.as_bytes())?))
+}
+
+/// The address of a dotted quad or of an IPv6 text.
+fn address_of(text: &Text) -> Option<Answer>
+    ensures { result ≡ address_of text.now }
+{
+    match quad(text) {
+        Some(address) => Some(Answer::Address(address)),
+        None => quad6(text).map(Answer::Address6),
+    }
+}
+
+/// The family that an answer is of; `-` is said of IPv4.
+fn kind_of(answer: Answer) -> NameKind
+    ensures { result ≡ kind_of answer }
+{
+    match answer {
+        Answer::Address(_) | Answer::NoAddress => NameKind::V4,
+        Answer::Address6(_) => NameKind::V6,
+    }
 }

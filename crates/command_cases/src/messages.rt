@@ -1,7 +1,8 @@
-// Messages, as RFC 1035 has them in section 4.1.
+// Messages, as RFC 1035 has them in section 4.1, and RFC 3596 in section 2. Behind a name that asks for IPv6 addresses
+// stands `:AAAA`.
 use anyhow::{Context, Result};
 use std::alloc::Global;
-use std::net::Ipv4Addr;
+use std::net::{Ipv4Addr, Ipv6Addr};
 
 // The flags of a query that desires recursion, of a reply, and of one that says that there is no such name.
 const QUERY: u16 = 0x0100;
@@ -10,7 +11,12 @@ const REPLY: u16 = 0x8180;
 
 const NAME_ERROR: u16 = 0x8183;
 
-/// The question for the address of a name under a number.
+// The types of records with addresses.
+const A: u8 = 1;
+
+const AAAA: u8 = 28;
+
+/// The question for the addresses of a name under a number.
 pub(crate) fn question(alloc: Global, number: u16, name: &str) -> Result<Vec<u8>> {
     asked(alloc, number, QUERY, 0, name)
 }
@@ -35,12 +41,23 @@ fn addressed(alloc: Global, number: u16, name: &str, addresses: &str) -> Result<
     let count = u16::try_from(addresses.split(',').count())?;
     let mut message = asked(alloc, number, REPLY, count, name)?;
     for address in addresses.split(',') {
-        let address = address.parse::<Ipv4Addr>().ok().context("an address")?;
-        // the owner is the question's name at 12; A, IN, 60 seconds, 4 octets
-        message.extend_from_slice(&[0xc0, 12, 0, 1, 0, 1, 0, 0, 0, 60, 0, 4])?;
-        message.extend_from_slice(&address.octets())?;
+        if address.contains(':') {
+            let address = address.parse::<Ipv6Addr>().ok().context("an address")?;
+            push_record(&mut message, AAAA, &address.octets())?;
+        } else {
+            let address = address.parse::<Ipv4Addr>().ok().context("an address")?;
+            push_record(&mut message, A, &address.octets())?;
+        }
     }
     Ok(message)
+}
+
+// The owner is the question's name at 12; then the type, IN, 60 seconds, and the octets behind their count.
+fn push_record(message: &mut Vec<u8>, kind: u8, octets: &[u8]) -> Result<()> {
+    message.extend_from_slice(&[0xc0, 12, 0, kind, 0, 1, 0, 0, 0, 60, 0])?;
+    message.push(u8::try_from(octets.len())?)?;
+    message.extend_from_slice(octets)?;
+    Ok(())
 }
 
 // A message with one question and so many answers to come.
@@ -51,8 +68,12 @@ fn asked(alloc: Global, number: u16, flags: u16, answers: u16, name: &str) -> Re
     message.extend_from_slice(&[0, 1])?;
     message.extend_from_slice(&answers.to_be_bytes())?;
     message.extend_from_slice(&[0, 0, 0, 0])?;
+    let (name, kind) = match name.strip_suffix(":AAAA") {
+        Some(name) => (name, AAAA),
+        None => (name, A),
+    };
     push_name(&mut message, name)?;
-    message.extend_from_slice(&[0, 1, 0, 1])?;
+    message.extend_from_slice(&[0, kind, 0, 1])?;
     Ok(message)
 }
 
@@ -65,13 +86,16 @@ fn push_name(message: &mut Vec<u8>, name: &str) -> Result<()> {
     Ok(())
 }
 
-/// The number and the name for which these octets are the question, parted by a slash; none where they are none.
+/// The name and the number for which these octets are the question, parted by a slash; none where they are none.
 pub(crate) fn question_in(alloc: Global, message: &[u8]) -> Result<Option<String>> {
-    let [first, second, ..] = message else {
+    let [first, second, .., kind, _, _] = message else {
         return Ok(None);
     };
     let number = u16::from_be_bytes([*first, *second]);
-    let name = name_in(alloc, message)?;
+    let mut name = name_in(alloc, message)?;
+    if *kind == AAAA {
+        name.push_str(":AAAA")?;
+    }
     if question(alloc, number, &name)?.as_slice() != message {
         return Ok(None);
     }

@@ -9,8 +9,9 @@ use std::alloc::Global;
 pub(crate) enum Form {
     /// `first:NAME/NUMBER` or `second:NAME/NUMBER` for a question, by its server, `frame:NAME/NUMBER` for one with its
     /// length before it over the stream, and `broken:NAME/NUMBER` where that ended at it, each with `other` for what is
-    /// none; `given`, `tick`, `piece:N` for so many octets of the stream, and `end` for its end. Each stands behind a
-    /// blank; behind those that come more than once in a row stands `*` and their count.
+    /// none, and `:AAAA` behind a name that asks for IPv6 addresses; `given`, `tick`, `piece:N` for so many octets of
+    /// the stream, and `end` for its end. Each stands behind a blank; behind those that come more than once in a row
+    /// stands `*` and their count.
     Questions,
     /// The same without names, numbers and lengths, each with how often it comes in a row, and each before a blank.
     Kinds,

@@ -2,6 +2,7 @@
 use Rattle.std.proofs.Common.{◌≡◌, ℕ, ◌<◌, ◌≤◌, Bool, true, false, not, ◌&&◌, List, length, refl, sym, ◌∙◌, ap}
 use Rattle.std.specs.Prelude.{is_some}
 use Rattle.std.proofs.lemmas.Bool.{and_left, and_right, and_parts, le-leb, lt-leb}
+use Rattle.pac_names.specs.Names.{Name}
 use Rattle.dns_message.specs.Header.{header_of, is_response_to, is_truncated_response_to}
 use Rattle.dns_message.specs.Laws.{TruncatedIsNoReply}
 use Rattle.dns_message.specs.Question.{question_end}
@@ -9,12 +10,12 @@ use Rattle.dns_message.specs.Truncation.{is_truncated}
 use Rattle.dns_message.specs.declared.header.Header.{Header}
 use Rattle.dns_message.proofs.Replies.{no_response}
 
-pub without_header : (datagram name : List ℕ) (id : ℕ) → length datagram < 12 → is_truncated datagram id name ≡ false
+pub without_header : (datagram : List ℕ) (name : Name) (id : ℕ) → length datagram < 12 → is_truncated datagram id name ≡ false
 unfolding is_truncated
 without_header datagram name id h =
     ap (λ (b : Bool). (b && is_truncated_response_to (header_of datagram) id) && is_some (question_end datagram name)) (lt-leb _ _ h)
 
-pub with_header : (datagram name : List ℕ) (id : ℕ) (h : Header) → h ≡ header_of datagram → 12 ≤ length datagram
+pub with_header : (datagram : List ℕ) (name : Name) (id : ℕ) (h : Header) → h ≡ header_of datagram → 12 ≤ length datagram
     → is_truncated datagram id name ≡ (is_truncated_response_to h id && is_some (question_end datagram name))
 unfolding is_truncated
 with_header datagram name id h e long =

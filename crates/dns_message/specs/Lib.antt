@@ -1,4 +1,5 @@
 pub mod Dotted
+pub mod Examples
 pub mod Header
 pub mod Laws
 pub mod Numbers

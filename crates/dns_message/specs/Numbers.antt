@@ -10,6 +10,10 @@ number_at message at = big_number 2 (drop at message)
 abbrev pub address_at : List ℕ → ℕ → ℕ
 address_at message at = big_number 4 (drop at message)
 
+-- the 128 bits at an offset
+abbrev pub address6_at : List ℕ → ℕ → ℕ
+address6_at message at = big_number 16 (drop at message)
+
 -- the octets of 16 bits
 abbrev pub number_octets : ℕ → List ℕ
 number_octets n = big_bytes 2 n

@@ -2,7 +2,7 @@
 ghost use Rattle.std.specs.Prelude.{◌≡◌, ◌+◌, ◌≤◌, length};
 ghost use Rattle.byteorder.specs.Endian.{big_bytes};
 ghost use Rattle.dns_name.specs.Writing.{overwritten};
-ghost use Rattle.dns_message.specs.Numbers.{address_at, number_at, number_octets};
+ghost use Rattle.dns_message.specs.Numbers.{address6_at, address_at, number_at, number_octets};
 
 use byteorder::{BigEndian, ByteOrder};
 
@@ -18,6 +18,13 @@ pub(crate) fn read_u32(message: &[u8], at: usize) -> u32
     ensures { result ≡ address_at message.now at }
 {
     BigEndian::read_u32(&message[at..])
+}
+
+pub(crate) fn read_u128(message: &[u8], at: usize) -> u128
+    requires { at + 16 ≤ length message.now }
+    ensures { result ≡ address6_at message.now at }
+{
+    BigEndian::read_u128(&message[at..])
 }
 
 /// Writes 16 bits at an offset, and gives the offset behind them.
@@ -38,4 +45,14 @@ pub(crate) fn write_u32(buffer: &mut [u8; 512], at: usize, number: u32) -> usize
 {
     BigEndian::write_u32(&mut buffer[at..], number);
     at + 4
+}
+
+/// Writes 128 bits at an offset, and gives the offset behind them.
+pub(crate) fn write_u128(buffer: &mut [u8; 512], at: usize, number: u128) -> usize
+    requires { at + 16 ≤ 512 }
+    ensures written { buffer.new ≡ overwritten buffer.old at (big_bytes 16 number) }
+    ensures behind { result ≡ at + 16 }
+{
+    BigEndian::write_u128(&mut buffer[at..], number);
+    at + 16
 }

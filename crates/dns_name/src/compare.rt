@@ -30,7 +30,7 @@ pub fn same_name(message: &[u8], a: usize, b: usize) -> bool
 
 /// Whether the name at an offset is the lookup name, ASCII case aside.
 pub fn spells(message: &[u8], at: usize, name: &LookupName) -> bool
-    ensures { result ≡ spells_name message.now at name.now }
+    ensures { result ≡ spells_name message.now at name.now.text }
 {
     let mut place = Place { piece: at, at };
     let mut rest = Some(name.bytes());

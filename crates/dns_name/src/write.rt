@@ -11,11 +11,11 @@ use pac_names::{LookupName, split_label};
 /// octets stay. A name takes at most 255 octets.
 pub fn write_name(buffer: &mut [u8; 512], at: usize, name: &LookupName) -> usize
     requires { at + 255 ≤ 512 }
-    ensures written { buffer.new ≡ overwritten buffer.old at (wire_name name.now) }
-    ensures behind { result ≡ at + length (wire_name name.now) }
+    ensures written { buffer.new ≡ overwritten buffer.old at (wire_name name.now.text) }
+    ensures behind { result ≡ at + length (wire_name name.now.text) }
     ensures room { result ≤ at + 255 }
     ensures kept { IsTrue (is_lookup_name name.now) }
-    ensures read { name_at buffer.new at ≡ Some (record { labels = labels_of name.now; behind = result }) }
+    ensures read { name_at buffer.new at ≡ Some (record { labels = labels_of name.now.text; behind = result }) }
 {
     let mut at = at;
     let mut rest = Some(name.bytes());

@@ -2,7 +2,8 @@
 use Rattle.std.proofs.Common.{◌≡◌, ℕ, ◌+◌, ◌*◌, ◌≤◌, List, [], ◌∷◌, length, map, Option, Some, None, refl, sym, ◌∙◌, ap, arith}
 use Rattle.std.specs.List.{sum_by}
 use Rattle.std.proofs.lemmas.List.Sums.{sum_by-cons}
-use Rattle.js_host.specs.Answers.{AnswerMap, Name}
+use Rattle.pac_names.specs.Names.{Name}
+use Rattle.js_host.specs.Answers.{AnswerMap}
 use Rattle.pac_names.specs.declared.limits.TheConstants.{MOST_NAMES}
 use Rattle.run_trees.specs.WholeRun.{WholeRun}
 use Rattle.run_trees.proofs.Few.{few-none, few-rest}

@@ -1,6 +1,7 @@
 -- Evaluation: what each part of a script does, with so much room left in depth; and one run of a script, by its names
 -- or by slots.
 use Rattle.std.specs.Prelude.{ℕ, zero, suc, List, [], ◌∷◌, take, Option, Some, None, Ok, Err, if◌then◌else◌, codes}
+use Rattle.std.specs.Option.{option_or}
 use Rattle.js_tree.specs.declared.place.Place.{Place}
 use Rattle.js_tree.specs.Tree.{FunctionTree, StatementTree, Statements}
 use Rattle.js_binding.specs.Numbered.{numbered_script}
@@ -75,10 +76,18 @@ pub record Entry : Type 0 where
 abbrev pub outer_scope : ScopeId
 outer_scope = record { 0 = 0 }
 
--- the function of a script, where the global name stands for one
-abbrev pub entry_of : HeapView → Found → Option ObjectId
-entry_of h (found.Value (value.Object id)) = if is_callable h (value.Object id) then Some id else None
-entry_of h f = None
+-- the function that is found, where it is one
+abbrev pub function_of : HeapView → Found → Option ObjectId
+function_of h (found.Value (value.Object id)) = if is_callable h (value.Object id) then Some id else None
+function_of h f = None
+
+-- the function that a global name stands for
+abbrev pub function_named : HeapView → List ℕ → Option ObjectId
+function_named h name = function_of h (found_of h global_id name)
+
+-- the function of a script that is called: `FindProxyForURLEx` where there is one, else `FindProxyForURL`
+abbrev pub entry_in : HeapView → Option ObjectId
+entry_in h = option_or (function_named h (codes "FindProxyForURLEx")) (function_named h (codes "FindProxyForURL"))
 
 module _ (scoping : Scoping) (functions : List FunctionTree) (entry : Entry) where
   -- the two texts are tested, and then the function is called
@@ -88,11 +97,11 @@ module _ (scoping : Scoping) (functions : List FunctionTree) (entry : Entry) whe
       test_text entry.url outside >> test_text entry.host outside
       >> (evaluation scoping functions MOST_OPEN).value (call_part f global_object (value.Text entry.url ∷ value.Text entry.host ∷ []) outside)
 
-  -- the script is loaded, and then its function `FindProxyForURL` is called with the URL and the host
+  -- the script is loaded, and then its function is called with the URL and the host
   abbrev pub script_run : Statements → Does Value
   script_run ss =
       (evaluation scoping functions MOST_OPEN).value (load_part outer_scope ss)
-      >> reading (λ s. called_for (entry_of s.heap (found_of s.heap global_id (codes "FindProxyForURL"))))
+      >> reading (λ s. called_for (entry_in s.heap))
 
 -- the heap at the beginning of a run holds the built-in objects alone
 abbrev pub first_state : Scoping → Entry → RunState

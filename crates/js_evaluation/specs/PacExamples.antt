@@ -32,6 +32,9 @@ answers =
     -- a missing argument is undefined, and undefined has no address
     row 1000 (doing (codes "return '' + dnsResolve() + isPlainHostName();")) (gives (codes "nulltrue")) ∷
     row 1000 (doing (codes "return '' + alert('x');")) (gives (codes "undefined")) ∷
+    -- what writes an address of either family is it, in its plain spelling; and so is a net's
+    row 1000 (doing (codes "return dnsResolveEx('2001:DB8:0::1') + ' ' + dnsResolveEx('010.1.2.3') + isResolvableEx('a b');")) (gives (codes "2001:db8::1 10.1.2.3false")) ∷
+    row 1000 (doing (codes "return '' + isInNetEx('2001:db8::5', '2001:db8::/32') + isInNetEx('10.1.2.3', '2001:db8::/32');")) (gives (codes "truefalse")) ∷
     -- it is Saturday, 28 November 2026, at noon
     row 1000 (doing (codes "return '' + weekdayRange('SAT') + dateRange(28, 'NOV') + timeRange(13);")) (gives (codes "truetruefalse")) ∷
     -- the ranges count each argument, and take it as it is
@@ -54,6 +57,9 @@ as_natives =
     row 1000 (codes "function isPlainHostName() { return 'mine'; } function FindProxyForURL() { return isPlainHostName(); }") (gives (codes "mine")) ∷
     -- one may be the function of the script
     row 1000 (codes "var FindProxyForURL = myIpAddress;") (gives (codes "127.0.0.1")) ∷
+    -- the function of the longer name is called where there is one
+    row 1000 (codes "function FindProxyForURL() { return 'a'; } function FindProxyForURLEx() { return 'b'; }") (gives (codes "b")) ∷
+    row 1000 (codes "function FindProxyForURL() { return 'a'; } var FindProxyForURLEx = 1;") (gives (codes "a")) ∷
     -- none constructs
     row 1000 (doing (codes "new dnsResolve(h);")) (fails_with code.Unsupported (at 1 34) (codes "dnsResolve")) ∷
     row 1000 (doing (codes "return typeof alert;")) (gives (codes "function")) ∷

@@ -131,6 +131,11 @@ pub const NATIVES: &[NativeRow] = &[
     (array!(LastIndexOf), "Array.prototype.lastIndexOf", Method(ThisArray), &[Kept, Position], All(Kept), Elements), // 66 (15.4.4.15)
     (Native::ArrayJoin, "Array.prototype.join", Method(ThisArray), &[OptionalText], Listed, Own), // 67 (15.4.4.5)
     (Native::ArrayToString, "Array.prototype.toString", Method(ThisArray), &[], Listed, Own), // 68 (15.4.4.2)
+
+    // The functions that ask for addresses of both families, under the names that browsers have.
+    (pac!(DnsResolveEx), "dnsResolveEx", Function, &[Primitive], Listed, Units), // 69 (this project's)
+    (pac!(IsResolvableEx), "isResolvableEx", Function, &[Primitive], Listed, Units), // 70 (this project's)
+    (pac!(IsInNetEx), "isInNetEx", Function, &[Primitive, Primitive], Listed, Units), // 71 (this project's)
 ];
 
 /// The row of a native that has none: it would take nothing. Each native has one.

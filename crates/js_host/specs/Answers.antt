@@ -1,18 +1,14 @@
 -- Answers to lookup names: maps, and what is known of all names.
-use Rattle.std.specs.Prelude.{◌≡◌, ℕ, List, Bool, true, false, Option, Some, None, is_none, find, unwrap_or}
-use Rattle.std.specs.Ordering.{nat_cmp}
-use Rattle.std.specs.Cmp.Lexicographic.{slice_cmp}
+use Rattle.std.specs.Prelude.{◌≡◌, List, Bool, true, false, Option, Some, None, is_none, find, unwrap_or}
 use Rattle.std.specs.FinMap as map
 use Rattle.pac_names.specs.declared.answer.Answer.{Answer}
 use Rattle.pac_names.specs.declared.answer.Answer.TheVariants.{NoAddress}
-
--- a lookup name, as its bytes
-abbrev pub Name : Type 0
-Name = List ℕ
+use Rattle.pac_names.specs.Names.{Name}
+use Rattle.pac_names.specs.Comparing.{compare_names}
 
 -- a finite map from names to answers
 abbrev pub AnswerMap : Type 0
-AnswerMap = map.FinMap {K = Name} (slice_cmp nat_cmp) Answer
+AnswerMap = map.FinMap {K = Name} compare_names Answer
 
 -- the answer that a map gives: a name outside has no address
 abbrev pub answer_in : AnswerMap → Name → Answer

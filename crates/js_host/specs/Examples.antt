@@ -1,21 +1,34 @@
 -- Worked examples of the limits, by computation.
-use Rattle.std.specs.Prelude.{◌≡◌, [], ◌∷◌, ◌++◌, true, false, replicate, codes, refl}
+use Rattle.std.specs.Prelude.{◌≡◌, ℕ, List, [], ◌∷◌, ◌++◌, true, false, replicate, codes, refl}
+use Rattle.pac_names.specs.declared.kind.NameKind.TheVariants.{V4, V6}
+use Rattle.pac_names.specs.Names.{Name}
 use Rattle.js_host.specs.Seen.{is_one_too_many, with_name, with_alert, kept_alerts}
 
+-- a name of each kind
+abbrev named : List ℕ → Name
+named text = record { kind = V4; text = text }
+
+abbrev named6 : List ℕ → Name
+named6 text = record { kind = V6; text = text }
+
 -- a new name behind 31 others is written down, and behind 32 is one too many; one that was asked never is
-pub thirty_second : is_one_too_many (replicate 31 (codes "a")) (codes "b") ≡ false
+pub thirty_second : is_one_too_many (replicate 31 (named (codes "a"))) (named (codes "b")) ≡ false
 thirty_second = refl
 
-pub thirty_third : is_one_too_many (replicate 32 (codes "a")) (codes "b") ≡ true
+pub thirty_third : is_one_too_many (replicate 32 (named (codes "a"))) (named (codes "b")) ≡ true
 thirty_third = refl
 
-pub asked_before : is_one_too_many (replicate 32 (codes "a")) (codes "a") ≡ false
+pub asked_before : is_one_too_many (replicate 32 (named (codes "a"))) (named (codes "a")) ≡ false
 asked_before = refl
 
-pub new_at_the_end : with_name (codes "a" ∷ codes "b" ∷ []) (codes "c") ≡ codes "a" ∷ codes "b" ∷ codes "c" ∷ []
+-- a name of the other kind is another name
+pub other_kind : is_one_too_many (replicate 32 (named (codes "a"))) (named6 (codes "a")) ≡ true
+other_kind = refl
+
+pub new_at_the_end : with_name (named (codes "a") ∷ named6 (codes "b") ∷ []) (named (codes "b")) ≡ named (codes "a") ∷ named6 (codes "b") ∷ named (codes "b") ∷ []
 new_at_the_end = refl
 
-pub once_alone : with_name (codes "a" ∷ codes "b" ∷ []) (codes "a") ≡ codes "a" ∷ codes "b" ∷ []
+pub once_alone : with_name (named (codes "a") ∷ named6 (codes "b") ∷ []) (named6 (codes "b")) ≡ named (codes "a") ∷ named6 (codes "b") ∷ []
 once_alone = refl
 
 -- the 256th alert is kept, and the 257th isn't

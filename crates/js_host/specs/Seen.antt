@@ -1,11 +1,12 @@
 -- What a host knows and has written down of a run, and what its calls do to that record.
 use Rattle.std.specs.Prelude.{◌≡◌, ℕ, List, [], ◌∷◌, ◌++◌, Bool, not, ◌&&◌, nat_lt, nat_le, if◌then◌else◌, length, take, map, Option, Some, None}
 use Rattle.std.specs.List.{list_any}
-use Rattle.std.specs.Str.{bytes_eq}
 use Rattle.pac_names.specs.declared.answer.Answer.{Answer}
 use Rattle.js_host.specs.declared.host.Looked.{Looked}
 use Rattle.js_host.specs.declared.host.Looked.TheVariants.{Known, Missing, TooMany, Memory}
-use Rattle.js_host.specs.Answers.{Name, Knowledge, known_answer}
+use Rattle.pac_names.specs.Names.{Name}
+use Rattle.pac_names.specs.Comparing.{same_name}
+use Rattle.js_host.specs.Answers.{Knowledge, known_answer}
 use Rattle.js_host.specs.declared.limits.TheConstants.{MOST_ALERTS, MOST_UNITS}
 use Rattle.pac_names.specs.declared.limits.TheConstants.{MOST_NAMES}
 
@@ -23,7 +24,7 @@ fresh known = record { known = known; asked = []; alerts = [] }
 
 -- the name was asked before
 abbrev pub was_asked : List Name → Name → Bool
-was_asked asked name = list_any (bytes_eq name) asked
+was_asked asked name = list_any (same_name name) asked
 
 -- the most names were asked, and this is another
 abbrev pub is_one_too_many : List Name → Name → Bool

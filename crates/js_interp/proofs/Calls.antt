@@ -1,6 +1,5 @@
 -- The call of the script's function.
 use Rattle.std.proofs.Common.{◌≡◌, ℕ, List, [], ◌∷◌, Option, Some, None, Result, Ok, Err, refl, ap, subst}
-use Rattle.std.specs.Prelude.{codes}
 use Rattle.std.specs.Result.{IsErrAnd}
 use Rattle.js_tree.specs.Tree.{FunctionTree}
 use Rattle.heap_values.specs.declared.ids.ObjectId.{ObjectId}
@@ -8,14 +7,12 @@ use Rattle.heap_values.specs.declared.built_in.BuiltIn.TheVariants as built_in
 use Rattle.heap_values.specs.declared.value.Value.{Value}
 use Rattle.heap_values.specs.declared.value.Value.TheVariants as value
 use Rattle.object_heap.specs.Fresh.{built_in_number}
-use Rattle.object_heap.specs.Heap.{found_of}
 use Rattle.run_trees.specs.Runs.{◌>>=◌}
 use Rattle.js_evaluation.specs.Scoping.{by_slots}
 use Rattle.js_evaluation.specs.Parts.{call_part, outside}
 use Rattle.js_evaluation.specs.State.{Stop, Does, test_text, built_in_object, global_object}
-use Rattle.js_evaluation.specs.Objects.{global_id}
 use Rattle.js_evaluation.specs.Evaluation as def
-use Rattle.js_evaluation.specs.Evaluation.{evaluation, called_for, entry_of}
+use Rattle.js_evaluation.specs.Evaluation.{evaluation, called_for, entry_in}
 use Rattle.js_evaluation.specs.declared.fault.FaultCode.TheVariants as code
 use Rattle.js_host.specs.Seen.{Seen}
 use Rattle.run_trees.specs.RunTree.{walk}
@@ -35,8 +32,8 @@ use Rattle.js_interp.proofs.Runs.{loop_runs, heap_then, heap_stops}
 use Rattle.js_evaluation.specs.declared.limits.TheConstants.{MOST_OPEN}
 
 module _ (functions : List FunctionTree) (entry : def.Entry) (m : Machine) (before : Seen) (r : Result (Result Value Stop) Cut) (m' : Machine) (after : Seen) where
-  -- what the name of the script's function stands for is called
-  pub found_runs : (f : Option ObjectId) → f ≡ entry_of m.state.heap (found_of m.state.heap global_id (codes "FindProxyForURL"))
+  -- the function of the script is called
+  pub found_runs : (f : Option ObjectId) → f ≡ entry_in m.state.heap
       → RunsBy (called_for by_slots functions entry f) m before r m' after → RunsBy (called functions entry) m before r m' after
   found_runs f is k last =
       subst (λ (g : Option ObjectId). Reaches last (walk (called_for by_slots functions entry g last (run_state m.state)) before) r m' after) is (k last)
@@ -48,7 +45,7 @@ unfolding walk
 not_found functions entry m before last = refl
 
 pub none_runs : (functions : List FunctionTree) (entry : def.Entry) (m : Machine) (before : Seen) (f : Option ObjectId)
-    → f ≡ entry_of m.state.heap (found_of m.state.heap global_id (codes "FindProxyForURL")) → ((id : ObjectId) → f ≡ Some id → ⊥)
+    → f ≡ entry_in m.state.heap → ((id : ObjectId) → f ≡ Some id → ⊥)
     → RunsBy (called functions entry) m before (Err (cut.Halt (halt.Fault code.NoEntry outside))) m before
 none_runs functions entry m before (Some id) is none = absurd (none id refl)
 none_runs functions entry m before None is none =

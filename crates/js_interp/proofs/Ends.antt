@@ -8,7 +8,7 @@ use Rattle.js_tree.specs.View.{function_of}
 use Rattle.heap_values.specs.declared.value.Value.{Value}
 use Rattle.heap_values.specs.Views.{HeapView}
 use Rattle.run_trees.specs.declared.abrupt.Abrupt.TheVariants as ending
-use Rattle.js_host.specs.Answers.{Name}
+use Rattle.pac_names.specs.Names.{Name}
 use Rattle.js_host.specs.Seen.{Seen}
 use Rattle.run_trees.specs.RunTree.{RunTree, Done, Walked, Ended, Stopped, walk}
 use Rattle.js_evaluation.specs.Scoping.{by_slots}

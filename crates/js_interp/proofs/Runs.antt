@@ -3,7 +3,8 @@ use Rattle.std.proofs.Common.{◌≡◌, List, [], Result, Ok, Err, sym, ap, sub
 use Rattle.std.specs.Result.{IsErrAnd}
 use Rattle.heap_values.specs.declared.value.Value.{Value}
 use Rattle.heap_values.specs.Views.{HeapView}
-use Rattle.js_host.specs.Answers.{Name, Knowledge}
+use Rattle.pac_names.specs.Names.{Name}
+use Rattle.js_host.specs.Answers.{Knowledge}
 use Rattle.js_host.specs.Seen.{Seen, fresh}
 use Rattle.run_trees.specs.Laws.{Restarts}
 use Rattle.run_trees.proofs.Restarting.{restarts}

@@ -1,19 +1,17 @@
 -- What the steps of a run of a program come to.
-use Rattle.std.specs.Prelude.{◌≡◌, ℕ, List, [], Result, Ok, Err, codes}
+use Rattle.std.specs.Prelude.{◌≡◌, ℕ, List, [], Result, Ok, Err}
 use Rattle.std.specs.Borrow.{Bor}
 use Rattle.js_tree.specs.declared.expression.Function.{Function}
 use Rattle.js_tree.specs.Tree.{FunctionTree}
 use Rattle.heap_values.specs.declared.value.Value.{Value}
-use Rattle.object_heap.specs.Heap.{found_of}
 use Rattle.run_trees.specs.declared.abrupt.Abrupt.TheVariants as ending
 use Rattle.js_host.specs.Seen.{Seen}
 use Rattle.run_trees.specs.RunTree.{RunTree, Walked, Ended, Stopped, walk}
 use Rattle.run_trees.specs.Runs.{reading}
 use Rattle.js_evaluation.specs.State.{RunEnd, Faults, Stop, Does, AfterValue}
-use Rattle.js_evaluation.specs.Objects.{global_id}
 use Rattle.js_evaluation.specs.Scoping.{by_slots}
 use Rattle.js_evaluation.specs.Evaluation as def
-use Rattle.js_evaluation.specs.Evaluation.{called_for, entry_of, ending_of, first_state}
+use Rattle.js_evaluation.specs.Evaluation.{called_for, entry_in, ending_of, first_state}
 use Rattle.heap_steps.specs.declared.halt.Halt.{Halt}
 use Rattle.heap_steps.specs.declared.halt.Halt.TheVariants as halt
 use Rattle.heap_steps.specs.Works.{plain_fault, left_out}
@@ -50,7 +48,7 @@ RunsBy part m before r m' after = (last : AfterValue) → Reaches last (walk (pa
 
 -- the call of the script's function, once the script is loaded
 abbrev pub called : List FunctionTree → def.Entry → Does Value
-called functions entry = reading (λ s. called_for by_slots functions entry (entry_of s.heap (found_of s.heap global_id (codes "FindProxyForURL"))))
+called functions entry = reading (λ s. called_for by_slots functions entry (entry_in s.heap))
 
 -- the run ends so over the host
 pub record EndsAs (run : RunTree RunEnd) (before : Seen) (ending : Ending) (after : Seen) : Type 0 where

@@ -1,6 +1,6 @@
 //! Runs of scripts.
 //!
-//! `run` runs a script and its function `FindProxyForURL` for one URL, over a host that answers lookups. It comes to
+//! `run` runs a script and its function for one URL, over a host that answers lookups. It comes to
 //! the outcome of one uninterrupted run, or stops at the first name that the host doesn't know: `specs/Answers.antt`
 //! says so by the definition of evaluation (ECMA-262 edition 5.1, cut to this profile). It stands on js_runs, and on
 //! the programs of js_scope.

@@ -1,12 +1,10 @@
 // One run of a script.
-ghost use Rattle.std.specs.Prelude.{◌≡◌, ◌+◌, ◌∷◌, [], IfOk, codes};
+ghost use Rattle.std.specs.Prelude.{◌≡◌, ◌+◌, ◌∷◌, [], IfOk};
 ghost use Rattle.heap_values.specs.declared.value.Value.TheVariants as value;
-ghost use Rattle.object_heap.specs.Heap.{found_of};
 ghost use Rattle.js_tree.specs.Tree.{statements_of};
 ghost use Rattle.js_scope.specs.Functions as scoped;
 ghost use Rattle.js_evaluation.specs.Scoping.{by_slots};
 ghost use Rattle.js_evaluation.specs.Evaluation as spec;
-ghost use Rattle.js_evaluation.specs.Objects.{global_id};
 ghost use Rattle.js_machine.specs.Moves.{functions_of};
 ghost use Rattle.js_host.specs.Answers.{Knowledge};
 ghost use Rattle.js_host.specs.Seen.{fresh};
@@ -43,8 +41,8 @@ pub enum RunAnswer {
     Memory,
 }
 
-/// Runs a program for an entry: it is loaded into a fresh heap, and its function `FindProxyForURL` is called with the
-/// URL and the host. It counts as one run. What is said of its answer holds for a host that was asked nothing yet and
+/// Runs a program for an entry: it is loaded into a fresh heap, and its function, `FindProxyForURLEx` or else
+/// `FindProxyForURL`, is called with the URL and the host. It counts as one run. What is said of its answer holds for a host that was asked nothing yet and
 /// kept no alert.
 pub fn run<H: Host, L: Ledger>(
     alloc: Global,
@@ -173,11 +171,21 @@ fn call_entry<'p, H: Host>(
     run_on(machine, call, host, alerts)
 }
 
-/// The function of the script, where its name stands for one.
+/// The function of the script: `FindProxyForURLEx` where there is one, else `FindProxyForURL`.
 fn entry_function(alloc: Global, heap: &Heap) -> Result<Option<ObjectId>, Memory>
-    ensures { IfOk result (λ function. function ≡ spec.entry_of heap.now (found_of heap.now global_id (codes "FindProxyForURL"))) }
+    ensures { IfOk result (λ function. function ≡ spec.entry_in heap.now) }
 {
-    let name = Text::from_latin_1(alloc, b"FindProxyForURL")?;
+    match function_named(alloc, heap, b"FindProxyForURLEx")? {
+        Some(function) => Ok(Some(function)),
+        None => function_named(alloc, heap, b"FindProxyForURL"),
+    }
+}
+
+/// The function that a global name stands for.
+fn function_named(alloc: Global, heap: &Heap, name: &[u8]) -> Result<Option<ObjectId>, Memory>
+    ensures { IfOk result (λ function. function ≡ spec.function_named heap.now name.now) }
+{
+    let name = Text::from_latin_1(alloc, name)?;
     match heap.get(alloc, heap.built_in(BuiltIn::Global), &name)? {
         Found::Value(value) => Ok(callable(heap, &value)),
         Found::Absent => Ok(None),

@@ -1,15 +1,12 @@
 -- Each part, at each depth, and each run have one end and ask for lookup names alone, where the words of scopes do.
 use Rattle.std.proofs.Common.{ℕ, zero, suc, List, [], ◌∷◌, Option, Some, None}
-use Rattle.std.specs.Prelude.{codes}
 use Rattle.js_tree.specs.Tree.{FunctionTree, StatementTree, Statements}
 use Rattle.heap_values.specs.declared.ids.ObjectId.{ObjectId}
 use Rattle.heap_values.specs.declared.value.Value.TheVariants as value
-use Rattle.object_heap.specs.Heap.{found_of}
 use Rattle.js_evaluation.specs.State.{global_object}
-use Rattle.js_evaluation.specs.Objects.{global_id}
 use Rattle.js_evaluation.specs.Scoping.{Scoping, by_slots}
 use Rattle.js_evaluation.specs.Parts.{Part, expression_part, statement_part, call_part, construct_part, load_part, Within, expression_place, part_place, outside}
-use Rattle.js_evaluation.specs.Evaluation.{node, evaluation, Entry, entry_of, called_for, script_run, outer_scope, run_by_names}
+use Rattle.js_evaluation.specs.Evaluation.{node, evaluation, Entry, entry_in, called_for, script_run, outer_scope, run_by_names}
 use Rattle.js_law_evaluation.specs.Laws.{AsksLookupNames, RunsAskLookupNames}
 use Rattle.js_law_evaluation.proofs.OfState.{Ends, fails, reads, ◌then◌, charges-ends, test_text-ends}
 use Rattle.js_law_evaluation.proofs.OfScoping.{WordsEnd, by_names-end, by_slots-end}
@@ -49,7 +46,7 @@ module _ {scoping : Scoping} (words : WordsEnd scoping) (functions : List Functi
   pub runs-end : (entry : Entry) (ss : Statements) → Ends (script_run scoping functions entry ss)
   runs-end entry ss =
       (evaluation-ends MOST_OPEN).value (load_part outer_scope ss)
-      then reads (λ s. called_for-ends entry (entry_of s.heap (found_of s.heap global_id (codes "FindProxyForURL"))))
+      then reads (λ s. called_for-ends entry (entry_in s.heap))
 
 pub tree_by-asks : {scoping : Scoping} → WordsEnd scoping → RunsAskLookupNames scoping
 unfolding AsksLookupNames

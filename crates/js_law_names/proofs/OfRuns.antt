@@ -1,6 +1,6 @@
 -- Each part at each depth, and each run, by names does what it does by slots.
 use Rattle.std.proofs.Common.{◌≡◌, ℕ, zero, suc, List, [], ◌∷◌, Bool, true, false, ◌||◌, Option, Some, None, refl, sym, ◌∙◌, ap, subst, true≢false}
-use Rattle.std.specs.Prelude.{slice_get, codes}
+use Rattle.std.specs.Prelude.{slice_get}
 use Rattle.js_tree.specs.declared.place.Place.{Place}
 use Rattle.js_tree.specs.Tree.{FunctionTree, Statements}
 use Rattle.heap_values.specs.declared.ids.Kind.{Kind}
@@ -11,16 +11,15 @@ use Rattle.heap_values.specs.declared.value.Value.TheVariants as value
 use Rattle.heap_values.specs.Views.{ObjectView}
 use Rattle.heap_objects.specs.Scope.{fresh_scope}
 use Rattle.object_heap.specs.Fresh.{built_in_objects, filled_objects}
-use Rattle.object_heap.specs.Heap.{kind_in, found_of}
+use Rattle.object_heap.specs.Heap.{kind_in}
 use Rattle.run_trees.specs.Runs.{◌>>◌}
 use Rattle.run_trees.specs.RunTree.{Done}
 use Rattle.js_evaluation.specs.declared.fault.FaultCode.TheVariants as code
 use Rattle.js_evaluation.specs.declared.limits.TheConstants.{MOST_OPEN}
 use Rattle.js_evaluation.specs.State.{RunState, nameless, Comes, Does, fault, charge, global_object}
-use Rattle.js_evaluation.specs.Objects.{global_id}
 use Rattle.js_evaluation.specs.Scoping.{by_names, by_slots}
 use Rattle.js_evaluation.specs.Parts.{Part, Reference, expression_part, statement_part, call_part, construct_part, load_part, Within, expression_place, part_place, outside}
-use Rattle.js_evaluation.specs.Evaluation.{node, evaluation, Entry, outer_scope, entry_of, called_for, script_run, first_state, tree_by}
+use Rattle.js_evaluation.specs.Evaluation.{node, evaluation, Entry, outer_scope, entry_in, called_for, script_run, first_state, tree_by}
 use Rattle.js_law_right.specs.Right.{Setting, FunctionRight, own_in, ProgramRight}
 use Rattle.js_law_right.specs.Unbound.{statements_unbound}
 use Rattle.js_law_names.proofs.Worlds.{Shape, later_self, Fine}
@@ -124,4 +123,4 @@ runs-agree ss functions r entry =
 
     agree : Agrees r.setting start (script_run by_names (bare functions) entry (statements_unbound ss)) (script_run by_slots functions entry ss)
     agree = (evaluation-agrees functions r.owns r.functions MOST_OPEN).value start (load_part outer_scope ss) (shape, r.body)
-        then sees (λ t l f. called_for-agrees functions r.owns r.functions entry t (entry_of t.heap (found_of t.heap global_id (codes "FindProxyForURL")))) (λ t. refl)
+        then sees (λ t l f. called_for-agrees functions r.owns r.functions entry t (entry_in t.heap)) (λ t. refl)

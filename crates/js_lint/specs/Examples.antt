@@ -98,6 +98,12 @@ a_mask_of_three_numbers = refl
 pub a_quad : handed_advice (codes "isInNet") 2 (codes "255.0.0.0") ≡ None
 a_quad = refl
 
+pub a_prefix_without_a_length : handed_advice (codes "isInNetEx") 1 (codes "2001:db8::") ≡ Some advice.Prefix
+a_prefix_without_a_length = refl
+
+pub a_prefix : handed_advice (codes "isInNetEx") 1 (codes "2001:db8::/32") ≡ None
+a_prefix = refl
+
 -- the first argument is a host
 pub a_host : handed_advice (codes "isInNet") 0 (codes "www.example.com") ≡ None
 a_host = refl

@@ -69,11 +69,12 @@ member_finding own p object x = if has_name own.members x then None else member_
 abbrev pub may_lack : Ends → Bool
 may_lack ends = ends.completes || (ends.breaks || ends.returns_nothing)
 
+-- the functions that a run may begin with
 abbrev pub is_entry : Option (List ℕ) → Bool
 is_entry None = false
-is_entry (Some x) = bytes_eq x (codes "FindProxyForURL")
+is_entry (Some x) = bytes_eq x (codes "FindProxyForURL") || bytes_eq x (codes "FindProxyForURLEx")
 
--- `FindProxyForURL` owes a result, and so does a function that gives one somewhere
+-- These owe a result, and so does a function that gives one somewhere.
 abbrev pub return_advice : Option (List ℕ) → Ends → Option Advice
 return_advice x ends = if may_lack ends && (is_entry x || ends.returns_value) then Some advice.Return else None
 

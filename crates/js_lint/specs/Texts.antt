@@ -21,12 +21,22 @@ pattern_advice t = if list_any is_choice_sign t then Some advice.Pattern else No
 abbrev pub quad_advice : List ℕ → Option Advice
 quad_advice t = if is_none (quad_of t) then Some advice.Quad else None
 
+-- ---- prefixes: an address, `/` and a length
+
+abbrev pub is_slash : ℕ → Bool
+is_slash u = u == 47
+
+-- A text without a `/` has no length, so it is no prefix.
+abbrev pub prefix_advice : List ℕ → Option Advice
+prefix_advice t = if not (list_any is_slash t) then Some advice.Prefix else None
+
 -- ---- what is handed to a function: by its name and the number of the argument, counted from 0
 
 abbrev pub handed_advice : List ℕ → ℕ → List ℕ → Option Advice
 handed_advice f n t =
     if bytes_eq f (codes "shExpMatch") && n == 1 then pattern_advice t
     else if bytes_eq f (codes "isInNet") && (n == 1 || n == 2) then quad_advice t
+    else if bytes_eq f (codes "isInNetEx") && n == 1 then prefix_advice t
     else None
 
 -- ---- schemes (RFC 3986, section 3.1): a letter, and then letters, digits, `+`, `-` and `.`

@@ -23,8 +23,8 @@ pub enum Advice {
     ObjectLiteral,
     /// Of kinds of errors.
     PlainError,
-    /// Of the functions for IPv6.
-    OlderFunctions,
+    /// Of functions for IPv6 that aren't here.
+    OtherFunctions,
     /// Of what browsers put around a page.
     NoBrowser,
     /// Of a console.
@@ -65,6 +65,8 @@ pub enum Advice {
     Pattern,
     /// Of an address or a mask of `isInNet`.
     Quad,
+    /// Of a prefix of `isInNetEx`.
+    Prefix,
     /// Of a scheme.
     Scheme,
     /// Of a function that may end without a result.

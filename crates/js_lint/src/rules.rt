@@ -245,6 +245,12 @@ fn is_entry(name: &Option<Text>) -> bool
 {
     match name {
         None => false,
-        Some(name) => is_spelled(name.units(), b"FindProxyForURL"),
+        Some(name) => is_entry_name(name.units()),
     }
+}
+
+fn is_entry_name(name: &[u16]) -> bool
+    ensures { result ≡ spec.is_entry (Some name.now) }
+{
+    is_spelled(name, b"FindProxyForURL") || is_spelled(name, b"FindProxyForURLEx")
 }

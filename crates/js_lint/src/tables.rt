@@ -1,13 +1,13 @@
 // What is known of names: the tables that code and definition read alike.
 //
 // What is here and what the standard has beside it stands in `docs/LANGUAGE.md`, "Built-in objects", after ECMA-262
-// edition 5.1, section 15. What later editions add is that of edition 15 (2024), sections 19 to 28; the functions for
-// IPv6 are those that Chromium's `pac_js_library.h` adds to the format.
+// edition 5.1, section 15. What later editions add is that of edition 15 (2024), sections 19 to 28; what browsers add for
+// IPv6 is that of Microsoft's page "IPv6 Extensions to Navigator Auto-Config File Format".
 use crate::Advice;
 use crate::standing::Standing;
 use Advice::{
     Alert, Arithmetic, Chance, Clock, Code, End, ForIn, Front, Joined, Loop, Matching, NoBrowser,
-    NumberText, ObjectLiteral, OlderFunctions, PlainCall, PlainError, PlainLetters, PlainObject,
+    NumberText, ObjectLiteral, OtherFunctions, PlainCall, PlainError, PlainLetters, PlainObject,
     PlainProperty, PlainText, Replace, Trim, Units, Var, WholeNumbers, Within,
 };
 use Standing::{Constructor, Here, Missing};
@@ -36,6 +36,9 @@ pub(crate) const GLOBALS: &[NameRow] = &[
     ("weekdayRange", Here),
     ("dateRange", Here),
     ("timeRange", Here),
+    ("dnsResolveEx", Here),
+    ("isResolvableEx", Here),
+    ("isInNetEx", Here),
 
     // The other names of the global object, and those that it inherits (15.1, 15.2.4).
     ("undefined", Here),
@@ -79,13 +82,10 @@ pub(crate) const GLOBALS: &[NameRow] = &[
     ("EvalError", Missing(PlainError)),
     ("URIError", Missing(PlainError)),
 
-    // What browsers add to the format.
-    ("dnsResolveEx", Missing(OlderFunctions)),
-    ("isResolvableEx", Missing(OlderFunctions)),
-    ("isInNetEx", Missing(OlderFunctions)),
-    ("myIpAddressEx", Missing(OlderFunctions)),
-    ("sortIpAddressList", Missing(OlderFunctions)),
-    ("getClientVersion", Missing(OlderFunctions)),
+    // What browsers add to the format besides.
+    ("myIpAddressEx", Missing(OtherFunctions)),
+    ("sortIpAddressList", Missing(OtherFunctions)),
+    ("getClientVersion", Missing(OtherFunctions)),
 
     // What browsers have around a page.
     ("console", Missing(Alert)),

@@ -18,6 +18,9 @@ pub(crate) fn handed_advice(function: &Text, number: u32, text: &Text) -> Option
     if is_spelled(function.units(), b"isInNet") && (number == 1 || number == 2) {
         return quad_advice(text);
     }
+    if is_spelled(function.units(), b"isInNetEx") && number == 1 {
+        return prefix_advice(text.units());
+    }
     None
 }
 
@@ -52,6 +55,28 @@ fn quad_advice(text: &Text) -> Option<Advice>
         return Some(Advice::Quad);
     }
     None
+}
+
+/// What is wrong with a prefix of `isInNetEx`: that it has no length.
+fn prefix_advice(text: &[u16]) -> Option<Advice>
+    ensures { result ≡ spec.prefix_advice text.now }
+{
+    if !has_length(text) {
+        return Some(Advice::Prefix);
+    }
+    None
+}
+
+fn has_length(text: &[u16]) -> bool
+    ensures { result ≡ list_any spec.is_slash text.now }
+{
+    text.iter().any(|unit| is_slash(*unit))
+}
+
+fn is_slash(unit: u16) -> bool
+    ensures { result ≡ spec.is_slash unit }
+{
+    unit == 47
 }
 
 /// What is wrong with a text beside a value that begins with this name.

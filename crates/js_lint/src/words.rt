@@ -20,7 +20,7 @@ pub(crate) const WORDS: &[AdviceRow] = &[
     (Advice::PlainText, "texts aren't encoded or decoded; compare them as they are"),
     (Advice::ObjectLiteral, "write an object literal"),
     (Advice::PlainError, "write Error(message)"),
-    (Advice::OlderFunctions, "write dnsResolve, isResolvable, isInNet or myIpAddress, which are for IPv4"),
+    (Advice::OtherFunctions, "for IPv6 there are dnsResolveEx, isResolvableEx and isInNetEx; myIpAddress is for IPv4"),
     (Advice::NoBrowser, "there is no browser around a script; leave it out"),
     (Advice::Alert, "write alert(text)"),
     (Advice::PlainObject, "later editions aren't here; write an object or an array"),
@@ -41,6 +41,7 @@ pub(crate) const WORDS: &[AdviceRow] = &[
     (Advice::NoNew, "call it without new; it makes no object"),
     (Advice::Pattern, "only * and ? are special in a pattern; join patterns by ||"),
     (Advice::Quad, "address and mask of a net are dotted quads, as 10.0.0.0 and 255.0.0.0"),
+    (Advice::Prefix, "a prefix is an address, / and how many bits count, as 10.0.0.0/8 or 2001:db8::/32"),
     (Advice::Scheme, "a URL begins with http, https, ws, wss or ftp, in lower case"),
     (Advice::Return, "it may end without a result; let each way through it end in return and a value"),
 ];

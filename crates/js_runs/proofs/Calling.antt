@@ -1,6 +1,6 @@
 -- A call of the host within a run.
 use Rattle.std.proofs.Common.{◌≡◌, ℕ, List, Option, Some, None, Bool, true, false, Result, Ok, Err, if◌then◌else◌, refl, sym, ap, subst, ◌∙◌, arith}
-use Rattle.std.specs.Prelude.{is_some, slice_get}
+use Rattle.std.specs.Prelude.{is_some, slice_get, not, length, ◌==◌}
 use Rattle.std.specs.Result.{IsErrAnd}
 use Rattle.js_tree.specs.declared.place.Place.{Place}
 use Rattle.heap_values.specs.declared.value.Value.{Value}
@@ -8,14 +8,16 @@ use Rattle.heap_values.specs.declared.value.Value.TheVariants as value
 use Rattle.heap_values.specs.Views.{HeapView}
 use Rattle.pac_names.specs.declared.answer.Answer.{Answer}
 use Rattle.pac_names.specs.declared.answer.Answer.TheVariants as of_name
-use Rattle.pac_names.specs.Names.{lookup_name_of}
+use Rattle.pac_names.specs.Names.{Name, lookup_name_of, lookup_name6_of}
 use Rattle.pac_names.specs.Quads.{quad_of}
+use Rattle.pac_ext.specs.Reading.{ipv6_of}
 use Rattle.pac_calendar.specs.declared.moment.Moments.{Moments}
-use Rattle.js_host.specs.Answers.{Name, known_answer}
+use Rattle.js_host.specs.Answers.{known_answer}
 use Rattle.js_host.specs.Seen.{Seen, Reply, Answered, Refused, Replies, lookup_by, is_one_too_many, with_name}
 use Rattle.pac_functions.specs.declared.call.PacFunction.{PacFunction}
 use Rattle.pac_functions.specs.declared.call.PacFunction.TheVariants as function
-use Rattle.pac_functions.specs.Addresses.{PacEnd, Gives, AsksTooMany, AfterAddress, replied, named_then, read_then, text_then, is_nothing, resolved, quad_result, is_address_in}
+use Rattle.pac_functions.specs.Addresses.{PacEnd, Gives, AsksTooMany, AfterAnswer, AfterAddress, replied, ipv4_in, ipv6_in, named_then, read_then, text_then, is_nothing, resolved, quad_result, is_address_in}
+use Rattle.pac_functions.specs.Families.{AfterText, joined, plain_text, asked_then, written_then, both_resolved}
 use Rattle.pac_functions.specs.Call.{pac_call, gives as give}
 use Rattle.pac_functions.specs.Texts.{or_undefined, text_in}
 use Rattle.js_convert.specs.Texts.{text_of}
@@ -43,15 +45,14 @@ abbrev alerts_of : {End : Type 0} → Walked End → List (List ℕ)
 alerts_of (Ended end seen) = seen.alerts
 alerts_of (Stopped name seen) = seen.alerts
 
--- what comes after an address tells the host nothing
-abbrev Quiet : AfterAddress → Type 0
-Quiet next = (address : Option ℕ) (seen : Seen) → alerts_of (walk (next address) seen) ≡ seen.alerts
+-- what comes after an answer, an address or a text tells the host nothing
+abbrev Quiet : {Found : Type 0} → (Found → RunTree PacEnd) → Type 0
+Quiet {Found} next = (found : Found) (seen : Seen) → alerts_of (walk (next found) seen) ≡ seen.alerts
 
-module _ (next : AfterAddress) (quiet : Quiet next) where
+module _ (next : AfterAnswer) (quiet : Quiet next) where
   quiet_reply : (reply : Reply) (seen : Seen) → alerts_of (walk (replied next reply) seen) ≡ seen.alerts
   unfolding walk
-  quiet_reply (Answered (of_name.Address address)) seen = quiet (Some address) seen
-  quiet_reply (Answered of_name.NoAddress) seen = quiet None seen
+  quiet_reply (Answered told) seen = quiet told seen
   quiet_reply Refused seen = refl
 
   quiet_known : (name : Name) (answer : Option Answer) (seen : Seen)
@@ -66,12 +67,13 @@ module _ (next : AfterAddress) (quiet : Quiet next) where
 
   quiet_named : (name : Option Name) (seen : Seen) → alerts_of (walk (named_then name next) seen) ≡ seen.alerts
   unfolding walk
-  quiet_named None seen = quiet None seen
+  quiet_named None seen = quiet of_name.NoAddress seen
   quiet_named (Some name) seen = quiet_lookup name (is_one_too_many seen.asked name) seen
 
+module _ (next : AfterAddress) (quiet : Quiet next) where
   quiet_read : (address : Option ℕ) (name : Option Name) (seen : Seen) → alerts_of (walk (read_then address name next) seen) ≡ seen.alerts
   quiet_read (Some address) name seen = quiet (Some address) seen
-  quiet_read None name seen = quiet_named name seen
+  quiet_read None name seen = quiet_named (λ told. next (ipv4_in told)) (λ told. quiet (ipv4_in told)) name seen
 
   quiet_value : (b : Bool) (v : Value) (seen : Seen) → alerts_of (walk (if b then next None else text_then (text_of v) next) seen) ≡ seen.alerts
   quiet_value true v seen = quiet None seen
@@ -79,6 +81,18 @@ module _ (next : AfterAddress) (quiet : Quiet next) where
 
   quiet_resolved : (vs : List Value) (seen : Seen) → alerts_of (walk (resolved vs next) seen) ≡ seen.alerts
   quiet_resolved vs seen = quiet_value (is_nothing (or_undefined (slice_get vs 0))) (or_undefined (slice_get vs 0)) seen
+
+module _ (next : AfterText) (quiet : Quiet next) where
+  quiet_asked : (text : List ℕ) (seen : Seen) → alerts_of (walk (asked_then text next) seen) ≡ seen.alerts
+  quiet_asked text seen =
+      quiet_named _ (λ six. quiet_named _ (λ four. quiet (joined (ipv6_in six) (ipv4_in four))) (lookup_name_of text)) (lookup_name6_of text) seen
+
+  quiet_written : (plain : Option (List ℕ)) (text : List ℕ) (seen : Seen) → alerts_of (walk (written_then plain text next) seen) ≡ seen.alerts
+  quiet_written (Some plain) text seen = quiet plain seen
+  quiet_written None text seen = quiet_asked text seen
+
+  quiet_both : (vs : List Value) (seen : Seen) → alerts_of (walk (both_resolved vs next) seen) ≡ seen.alerts
+  quiet_both vs seen = quiet_written (plain_text (quad_of (text_in vs 0)) (ipv6_of (text_in vs 0))) (text_in vs 0) seen
 
 -- a call keeps what it tells, and tells nothing else
 keeps : (f : PacFunction) (vs : List Value) (moments : Moments) (my_ip : ℕ) (seen : Seen)
@@ -98,6 +112,9 @@ keeps function.Alert vs moments my_ip seen = refl
 keeps function.WeekdayRange vs moments my_ip seen = refl
 keeps function.DateRange vs moments my_ip seen = refl
 keeps function.TimeRange vs moments my_ip seen = refl
+keeps function.DnsResolveEx vs moments my_ip seen = quiet_both (λ text. give (value.Text text)) (λ text after. refl) vs seen
+keeps function.IsResolvableEx vs moments my_ip seen = quiet_both (λ text. give (value.Bool (not (length text == 0)))) (λ text after. refl) vs seen
+keeps function.IsInNetEx vs moments my_ip seen = refl
 
 module _ (f : PacFunction) (vs : List Value) (moments : Moments) (my_ip : ℕ) (before : Seen) where
   pub keeps_of : (end : PacEnd) (after : Seen) → walk (pac_call f vs moments my_ip) before ≡ Ended end after
@@ -121,6 +138,9 @@ asks_quietly function.ShExpMatch vs moments my_ip before after e = cc
 asks_quietly function.WeekdayRange vs moments my_ip before after e = cc
 asks_quietly function.DateRange vs moments my_ip before after e = cc
 asks_quietly function.TimeRange vs moments my_ip before after e = cc
+asks_quietly function.DnsResolveEx vs moments my_ip before after e = keeps_of function.DnsResolveEx vs moments my_ip before AsksTooMany after e
+asks_quietly function.IsResolvableEx vs moments my_ip before after e = keeps_of function.IsResolvableEx vs moments my_ip before AsksTooMany after e
+asks_quietly function.IsInNetEx vs moments my_ip before after e = cc
 
 -- ---- what a call leaves of the run
 

@@ -2,7 +2,7 @@
 use Rattle.std.specs.Prelude.{◌≡◌, ℕ, ◌+◌, List, Result, Ok, Err}
 use Rattle.js_tree.specs.declared.place.Place.{Place}
 use Rattle.heap_values.specs.declared.value.Value.{Value}
-use Rattle.js_host.specs.Answers.{Name}
+use Rattle.pac_names.specs.Names.{Name}
 use Rattle.js_host.specs.Seen.{Seen, with_alert}
 use Rattle.pac_functions.specs.declared.call.PacFunction.{PacFunction}
 use Rattle.pac_functions.specs.declared.call.PacFunction.TheVariants as function

@@ -2,7 +2,8 @@
 use Rattle.std.proofs.Common.{◌≡◌, ◌∙◌, ℕ, ℤ, List, [], ◌∷◌, Option, Result, Ok, Err, map, ap, refl, sym, subst}
 use Rattle.std.specs.FinMap as finite
 use Rattle.js_binding.specs.Resolved.{resolved}
-use Rattle.js_host.specs.Answers.{AnswerMap, Completes, Extends, Name, partly}
+use Rattle.pac_names.specs.Names.{Name}
+use Rattle.js_host.specs.Answers.{AnswerMap, Completes, Extends, partly}
 use Rattle.js_host.specs.Seen.{Seen, kept_alerts}
 use Rattle.run_trees.specs.RunTree.{RunTree, Stopped}
 use Rattle.run_trees.specs.WholeRun.{whole_run}

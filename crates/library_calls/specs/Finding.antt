@@ -1,6 +1,7 @@
 -- One run of a script over the names that are told, by the run against a map of all names.
 use Rattle.std.specs.Prelude.{◌≡◌, ℕ, ℤ, List, [], ◌∷◌, Option, Some, None, Result, Ok, map}
-use Rattle.js_host.specs.Answers.{AnswerMap, Extends, Name, first_missing, partly}
+use Rattle.pac_names.specs.Names.{Name}
+use Rattle.js_host.specs.Answers.{AnswerMap, Extends, first_missing, partly}
 use Rattle.js_tree.specs.Tree.{StatementTree}
 use Rattle.js_evaluation.specs.Evaluation.{Entry, run_by_names}
 use Rattle.js_interp.specs.Answers.{entry_of}
@@ -17,7 +18,8 @@ use Rattle.library_calls.specs.Told.{Told, read_as, read_then}
 use Rattle.library_calls.specs.Settings.{given_by, zone_in}
 use Rattle.library_calls.specs.Inputs.{names_in, script_in, url_in}
 
--- a map of all names agrees with the names that are told: it has each answer that is read of them
+-- a map of all names agrees with the names that are told: it has each answer that is read of them, so of a name that is
+-- told for one family alone it has no address in the other
 abbrev pub Agrees : AnswerMap → List ℕ → Type 0
 Agrees all told = (known : AnswerMap) → names_in told ≡ Ok known → Extends all known
 
@@ -51,7 +53,7 @@ abbrev pub report_told : List ℕ → Told
 report_told text = record { status = status.Done; bytes = text }
 
 abbrev pub name_wanted : Name → Told
-name_wanted name = record { status = status.NameWanted; bytes = name }
+name_wanted name = record { status = status.NameWanted; bytes = name.text }
 
 abbrev pub told_by : Option Name → List ℕ → Told
 told_by None text = report_told text

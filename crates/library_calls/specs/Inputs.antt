@@ -7,7 +7,7 @@ use Rattle.js_host.specs.Answers.{AnswerMap}
 use Rattle.js_tree.specs.Tree.{StatementTree}
 use Rattle.js_grammar.specs.Reading.{Refusal}
 use Rattle.js_grammar.specs.Statements.{script_of_text}
-use Rattle.batch_text.specs.Names as names
+use Rattle.batch_text.specs.Told.{told_in}
 use Rattle.batch_text.specs.View.{Seen, view_of}
 use Rattle.batch_text.specs.declared.names.NamesKind.{NamesKind}
 use Rattle.pac_command.specs.Scripts as scripts
@@ -42,8 +42,9 @@ script_in bytes = if_short bytes (or_told (script_of_text (decoded_units bytes))
 abbrev pub refused_names : NamesKind × ℕ → Told
 refused_names refusal = record { status = status.BadNames; bytes = (commands.refused_names refusal).text }
 
+-- each name that has a line is told whole, so that none is wanted that was told
 abbrev pub names_in : List ℕ → Result AnswerMap Told
-names_in bytes = if_short bytes (or_told (names.names_in bytes) refused_names)
+names_in bytes = if_short bytes (or_told (told_in bytes) refused_names)
 
 -- ---- the URL
 

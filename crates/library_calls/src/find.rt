@@ -43,7 +43,8 @@ use tracing_host::TracingHost;
 use utf16_text::Memory;
 
 /// Runs a script once for a URL, over the names that are told. It tells the report of the run, or the first name that
-/// the run needs and that isn't told.
+/// the run needs and that isn't told. A name that has a line is told whole: where it has none for one family, it has no
+/// address there.
 pub fn find_proxy(
     alloc: Global,
     script: &[u8],

@@ -12,7 +12,7 @@ ghost use Rattle.library_calls.specs.Inputs as spec;
 use crate::early::Early;
 use crate::told::{Status, Told};
 use answer_table::AnswerTable;
-use batch_text::{NamesAnswer, NamesKind, View, ViewAnswer, read_names, view};
+use batch_text::{NamesAnswer, NamesKind, View, ViewAnswer, read_told_names, view};
 use js_parser::read_script;
 use js_tree::{Place, ReadAnswer, ReadKind, Script};
 use std::alloc::Global;
@@ -46,14 +46,15 @@ fn decoded(alloc: Global, bytes: &[u8]) -> Result<Text, Memory>
     Ok(text)
 }
 
-/// The answers that these bytes tell.
+/// The answers that these bytes tell, each name whole: of one that has a line for one family alone, the other has no
+/// address.
 pub(crate) fn names_in(alloc: Global, bytes: &[u8]) -> Result<AnswerTable, Early>
     ensures { Reads (spec.names_in bytes.now) result }
 {
     if bytes.len() > LONGEST_FILE {
         return Err(Early::Told(too_long(alloc)));
     }
-    match read_names(alloc, bytes) {
+    match read_told_names(alloc, bytes) {
         Ok(answers) => Ok(answers),
         Err(NamesAnswer::Refused(kind, number)) => Err(Early::Told(refused_names(
             alloc, kind, number,

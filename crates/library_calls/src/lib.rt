@@ -17,7 +17,7 @@ mod zone;
 
 pub use checking::check;
 pub use find::find_proxy;
-pub use laws::map_says_the_same;
+pub use laws::{map_says_the_same, wanted_is_untold};
 pub use list::list_proxies;
 pub use settings::Settings;
 pub use told::{Status, Told};

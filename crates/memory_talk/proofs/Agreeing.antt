@@ -5,7 +5,8 @@ use Rattle.std.specs.List.{All}
 use Rattle.std.proofs.lemmas.List.Elements.{All-cons, All-nil}
 use Rattle.pac_names.specs.declared.answer.Answer.{Answer}
 use Rattle.pac_names.specs.declared.answer.Answer.TheVariants.{NoAddress}
-use Rattle.js_host.specs.Answers.{AnswerMap, Name, answer_in}
+use Rattle.pac_names.specs.Names.{Name}
+use Rattle.js_host.specs.Answers.{AnswerMap, answer_in}
 use Rattle.run_trees.proofs.Answering.{rest-same}
 use Rattle.poll_log.specs.Told.{Map, told}
 use Rattle.poll_log.specs.Laws.{first_lacking}

@@ -5,12 +5,14 @@ use Rattle.std.specs.List.{AllByRecursion, list_any}
 use Rattle.std.proofs.lemmas.Bool.{cases_lt, or_cases}
 use Rattle.std.proofs.lemmas.List.{length-map, length_push, map-append, take-append-le, take_at}
 use Rattle.std.proofs.lemmas.List.Elements.{recursion_from_All}
+use Rattle.pac_names.specs.Comparing.{same_name}
+use Rattle.pac_names.specs.Names.{Name}
 use mathlib.Core.Path.{fun_ext}
 use Rattle.js_host.specs.Answers.{AnswerMap, answer_in}
 use Rattle.poll_log.specs.declared.question.Question.{Question}
 use Rattle.poll_log.specs.declared.terms.Terms.{Terms}
 use Rattle.poll_log.specs.Turns.{Outgoing, Turns, Begin, Then, Event, with_sent}
-use Rattle.poll_log.specs.Questions.{firsts, has_name, names_of, questions, same_name, was_sent}
+use Rattle.poll_log.specs.Questions.{firsts, has_name, names_of, questions, was_sent}
 use Rattle.poll_log.specs.Told.{Map, is_dead, told}
 use Rattle.poll_log.specs.Jobs.{IsCut, IsFinished, IsOwed, IsPolled, Job, SendsOwed, WaitsBefore, once, some_wait, waits_unless, wanted}
 use Rattle.poll_log.proofs.Dues.{firsts_next, firsts_of_begin}
@@ -30,18 +32,18 @@ use Rattle.memory_talk.proofs.Same.{told_none}
 -- ---- what is told, by the names that were sent
 
 -- the map's answers to these names
-abbrev answers_to : AnswerMap → List (List ℕ) → Map
+abbrev answers_to : AnswerMap → List Name → Map
 answers_to answers ns n = cond (has n ns) (Some (answer_in answers n)) None
 
-untold_among : (t : Terms) (h : Turns) (n : List ℕ) (qs : List Question) → AllByRecursion (IsUntold t h) qs → has_name n qs ≡ true → told t h n ≡ None
+untold_among : (t : Terms) (h : Turns) (n : Name) (qs : List Question) → AllByRecursion (IsUntold t h) qs → has_name n qs ≡ true → told t h n ≡ None
 untold_among t h n [] all k = true_false (sym k)
 untold_among t h n (q ∷ qs) all k = elim (or_cases (same_name q.name n) (has_name n qs) k) [
-  | inl same ↦ subst (λ (m : List ℕ). told t h m ≡ None) (same_is q.name n same) all.0
+  | inl same ↦ subst (λ (m : Name). told t h m ≡ None) (same_is q.name n same) all.0
   | inr later ↦ untold_among t h n qs all.1 later
 ]
 
 module _ (answers : AnswerMap) (t : Terms) (h : Turns) (p : IsPrompt answers t h) where
-  untold : (n : List ℕ) → has_name n p.done ≡ false → told t h n ≡ None
+  untold : (n : Name) → has_name n p.done ≡ false → told t h n ≡ None
   untold n other = go (has_name n p.due) refl
     where
       sent : was_sent h n ≡ (has_name n p.done || has_name n p.due)
@@ -51,7 +53,7 @@ module _ (answers : AnswerMap) (t : Terms) (h : Turns) (p : IsPrompt answers t h
       go true k = untold_among t h n p.due p.waiting k
       go false k = told_unsent t h n (sent ∙ ap (λ (b : Bool). b || has_name n p.due) other ∙ k)
 
-  told_one : (n : List ℕ) → told t h n ≡ answers_to answers (names_of p.done) n
+  told_one : (n : Name) → told t h n ≡ answers_to answers (names_of p.done) n
   told_one n = go (has_name n p.done) refl
     where
       by : (b : Bool) → has_name n p.done ≡ b → cond b (Some (answer_in answers n)) None ≡ answers_to answers (names_of p.done) n
@@ -78,10 +80,10 @@ module _ (answers : AnswerMap) (t : Terms) (h : Turns) (p : IsPrompt answers t h
   told_is = told_done ∙ ap (answers_to answers) done_names
 
 -- jobs that are finished don't wait
-none_wait : (dead : List ℕ → Bool) (M : Map) (jobs : List Job) → AllByRecursion (λ job. job M ≡ None) jobs → list_any (λ job. waits_unless dead (job M)) jobs ≡ false
+none_wait : (dead : Name → Bool) (M : Map) (jobs : List Job) → AllByRecursion (λ job. job M ≡ None) jobs → list_any (λ job. waits_unless dead (job M)) jobs ≡ false
 none_wait dead M [] finished = refl
 none_wait dead M (job ∷ jobs) finished =
-    ap (λ (r : Option (List ℕ)). waits_unless dead r || list_any (λ (j : Job). waits_unless dead (j M)) jobs) finished.0 ∙ none_wait dead M jobs finished.1
+    ap (λ (r : Option Name). waits_unless dead r || list_any (λ (j : Job). waits_unless dead (j M)) jobs) finished.0 ∙ none_wait dead M jobs finished.1
 
 -- ---- how many events came
 
@@ -130,13 +132,13 @@ module _ (most : ℕ) (answers : AnswerMap) (small : AreAddresses answers) (t : 
     names_then = ap names_of (firsts_next t jobs h e sent g.sends.0 owed) ∙ map-append (λ (q : Question). q.name) (firsts h) owed.fresh
 
     asked_then : names_of (firsts (Then h e sent)) ≡ names_of (firsts h) ++ once (names_of (firsts h)) (wanted jobs now_told)
-    asked_then = names_then ∙ ap (λ (ns : List (List ℕ)). names_of (firsts h) ++ ns) owed.asks
+    asked_then = names_then ∙ ap (λ (ns : List Name). names_of (firsts h) ++ ns) owed.asks
 
     told_then : now_told ≡ answers_to answers (take (length (events_of h) + 1) (names_of (firsts h)))
     told_then =
         told_is answers t (Then h e sent) (is_prompt (Then h e sent) g)
         ∙ ap (λ (k : ℕ). answers_to answers (take k (names_of (firsts (Then h e sent))))) (events_then h e sent)
-        ∙ ap (λ (ns : List (List ℕ)). answers_to answers (take (length (events_of h) + 1) ns)) names_then
+        ∙ ap (λ (ns : List Name). answers_to answers (take (length (events_of h) + 1) ns)) names_then
         ∙ ap (answers_to answers) (take-append-le (length (events_of h) + 1) (names_of (firsts h)) (names_of owed.fresh) (one_due h (before h e sent g) g.waits.1))
 
   -- The names are the same, what is told is, and so is the cost.
@@ -164,10 +166,10 @@ module _ (most : ℕ) (answers : AnswerMap) (small : AreAddresses answers) (t : 
       let M : Map = told t (Then h e sent) in
       let same : M ≡ told t (Then h' e' sent') =
       told_then h e sent g ∙ ap (λ (n : ℕ). answers_to answers (take (n + 1) (names_of (firsts h)))) count
-      ∙ ap (λ (ns : List (List ℕ)). answers_to answers (take (length (events_of h') + 1) ns)) a.names ∙ sym (told_then h' e' sent' k) in
+      ∙ ap (λ (ns : List Name). answers_to answers (take (length (events_of h') + 1) ns)) a.names ∙ sym (told_then h' e' sent' k) in
       record {
         names =
-            asked_then h e sent g ∙ ap (λ (ns : List (List ℕ)). ns ++ once ns (wanted jobs M)) a.names
+            asked_then h e sent g ∙ ap (λ (ns : List Name). ns ++ once ns (wanted jobs M)) a.names
             ∙ ap (λ (N : Map). names_of (firsts h') ++ once (names_of (firsts h')) (wanted jobs N)) same ∙ sym (asked_then h' e' sent' k);
         same_told = same;
         runs =

@@ -4,6 +4,7 @@ use Rattle.std.specs.Prelude.{is_some}
 use Rattle.std.proofs.lemmas.Bool.{ne_eqb}
 use Rattle.std.proofs.lemmas.Nat.{pow_below}
 use Rattle.std.proofs.Math.Nat.{mul-le-mul_left}
+use Rattle.pac_names.specs.Names.{Name}
 use Rattle.js_host.specs.Answers.{AnswerMap}
 use Rattle.poll_log.specs.declared.terms.TheConstants.{FLOOD}
 use Rattle.poll_log.specs.declared.terms.Terms.{Terms}
@@ -34,7 +35,7 @@ none_among wait (suc m) age low =
     ap (λ (b : Bool). cond b (Some (m + 1)) (sending_among wait m age)) (ne_eqb (sending_age wait (m + 1)) age (λ e. omega (arith, late, low, e)))
     ∙ none_among wait m age low
 
-aged : (h : Turns) (n : List ℕ) → age h n ≤ beats h
+aged : (h : Turns) (n : Name) → age h n ≤ beats h
 aged h n = go (was_sent h n) refl
   where
     go : (b : Bool) → was_sent h n ≡ b → age h n ≤ beats h
@@ -51,18 +52,18 @@ module _ (answers : AnswerMap) (t : Terms) (h : Turns) (p : IsPrompt answers t h
   beats_next d =
       ap (λ (gs : List ℕ). ticks h + floods (one_more gs)) p.stretch ∙ ap (λ (n : ℕ). n + floods ((length p.done + 1) ∷ [])) p.unticked ∙ (omega arith)
 
-  pub all_young : length p.done < FLOOD * t.wait → 0 < t.tries → (n : List ℕ) → age h n < limit t
+  pub all_young : length p.done < FLOOD * t.wait → 0 < t.tries → (n : Name) → age h n < limit t
   all_young low tried n =
       let old = aged h n in
       let now = beats_now in
       let late : t.wait ≤ limit t = at_a_wait t.wait t.tries tried in
       omega (arith, old, now, late)
 
-  pub none_falls : (d : List ℕ) → length p.done + 1 < FLOOD * t.wait → (n : List ℕ) → falls_at t h (Given d) n ≡ false
+  pub none_falls : (d : List ℕ) → length p.done + 1 < FLOOD * t.wait → (n : Name) → falls_at t h (Given d) n ≡ false
   none_falls d low n = go (is_beat h (Given d)) refl
     where
       in_flight : Bool
-      in_flight = flies (limit t) (told t (Then h (Given d) [])) (λ (m : List ℕ). age h m + 1) n
+      in_flight = flies (limit t) (told t (Then h (Given d) [])) (λ (m : Name). age h m + 1) n
 
       go : (b : Bool) → is_beat h (Given d) ≡ b → (b && (in_flight && is_some (sending_at t (age h n + 1)))) ≡ false
       go false k = refl

@@ -4,6 +4,7 @@ use Rattle.std.specs.List.{AllByRecursion, cons_option}
 use Rattle.std.proofs.lemmas.List.{append-nil, length-append, length-map}
 use Rattle.std.proofs.lemmas.List.Elements.{recursion_from_All}
 use Rattle.pac_names.specs.declared.answer.Answer.{Answer}
+use Rattle.pac_names.specs.Names.{Name}
 use Rattle.poll_log.specs.declared.question.Question.{Question}
 use Rattle.poll_log.specs.declared.terms.Terms.{Terms}
 use Rattle.poll_log.specs.Turns.{Outgoing, Turns, Begin, Then, Event}
@@ -19,22 +20,22 @@ use Rattle.session_log.specs.Sessions.{total}
 -- ---- names that are taken once
 
 -- one where there is a name that was not seen
-abbrev unseen : List (List ℕ) → Option (List ℕ) → ℕ
+abbrev unseen : List Name → Option Name → ℕ
 unseen seen None = 0
 unseen seen (Some n) = cond (has n seen) 0 1
 
 -- of the names that jobs want no more are taken than jobs want one that was not seen
-once_few : (jobs : List Job) (M : Map) (seen more : List (List ℕ)) → length (once (seen ++ more) (wanted jobs M)) ≤ total (λ job. unseen seen (job M)) jobs
+once_few : (jobs : List Job) (M : Map) (seen more : List Name) → length (once (seen ++ more) (wanted jobs M)) ≤ total (λ job. unseen seen (job M)) jobs
 once_few [] M seen more = let none : length (once (seen ++ more) []) ≡ 0 = ap length (once-none (seen ++ more)) in omega (arith, none)
 once_few (job ∷ jobs) M seen more = go (job M) (once_few jobs M seen)
   where
-    ns : List (List ℕ)
+    ns : List Name
     ns = wanted jobs M
 
     rest : ℕ
     rest = total (λ (j : Job). unseen seen (j M)) jobs
 
-    go : (r : Option (List ℕ)) → ((beyond : List (List ℕ)) → length (once (seen ++ beyond) ns) ≤ rest) → length (once (seen ++ more) (cons_option r ns)) ≤ unseen seen r + rest
+    go : (r : Option Name) → ((beyond : List Name) → length (once (seen ++ beyond) ns) ≤ rest) → length (once (seen ++ more) (cons_option r ns)) ≤ unseen seen r + rest
     go None few = let low : length (once (seen ++ more) ns) ≤ rest = few more in omega (arith, low)
     go (Some n) few = taken (has n (seen ++ more)) refl (has n seen) refl
       where
@@ -49,17 +50,17 @@ once_few (job ∷ jobs) M seen more = go (job M) (once_few jobs M seen)
         taken false e true k = true_false (sym (has-append n seen more ∙ ap (λ (x : Bool). x || has n more) k) ∙ e)
         taken false e false k =
             let same : length (once (seen ++ more) (n ∷ ns)) ≡ suc (length (once (seen ++ (more ++ n ∷ [])) ns)) =
-            ap length (split false e) ∙ ap (λ (l : List (List ℕ)). suc (length (once l ns))) (append_assoc seen more (n ∷ [])) in
+            ap length (split false e) ∙ ap (λ (l : List Name). suc (length (once l ns))) (append_assoc seen more (n ∷ [])) in
             let low : length (once (seen ++ (more ++ n ∷ [])) ns) ≤ rest = few (more ++ n ∷ []) in
             omega (arith, same, low)
 
-once_all : (jobs : List Job) (M : Map) (seen : List (List ℕ)) → length (once seen (wanted jobs M)) ≤ total (λ job. unseen seen (job M)) jobs
+once_all : (jobs : List Job) (M : Map) (seen : List Name) → length (once seen (wanted jobs M)) ≤ total (λ job. unseen seen (job M)) jobs
 once_all jobs M seen =
-    subst (λ (l : List (List ℕ)). length (once l (wanted jobs M)) ≤ total (λ (job : Job). unseen seen (job M)) jobs) (append-nil seen) (once_few jobs M seen [])
+    subst (λ (l : List Name). length (once l (wanted jobs M)) ≤ total (λ (job : Job). unseen seen (job M)) jobs) (append-nil seen) (once_few jobs M seen [])
 
 -- ---- what jobs asked for by now
 
-abbrev lacking_one : Option (List ℕ) → ℕ
+abbrev lacking_one : Option Name → ℕ
 lacking_one None = 0
 lacking_one (Some n) = 1
 
@@ -67,7 +68,7 @@ lacking_one (Some n) = 1
 abbrev asked_for : Terms → Turns → Job → ℕ
 asked_for t h job = runs_of t h job + lacking_one (job (told t h))
 
-unseen_lacking : (seen : List (List ℕ)) (r : Option (List ℕ)) → unseen seen r ≤ lacking_one r
+unseen_lacking : (seen : List Name) (r : Option Name) → unseen seen r ≤ lacking_one r
 unseen_lacking seen None = omega arith
 unseen_lacking seen (Some n) = go (has n seen)
   where
@@ -77,13 +78,13 @@ unseen_lacking seen (Some n) = go (has n seen)
 
 -- the job lacks a name that was sent, or none
 abbrev pub LacksSent : Terms → Turns → Job → Type 0
-LacksSent t h job = (n : List ℕ) → job (told t h) ≡ Some n → was_sent h n ≡ true
+LacksSent t h job = (n : Name) → job (told t h) ≡ Some n → was_sent h n ≡ true
 
 pub all_sent : (t : Terms) (jobs : List Job) (h : Turns) → SendsOwed t jobs h → AllByRecursion (LacksSent t h) jobs
 all_sent t jobs h o = recursion_from_All (LacksSent t h) jobs (λ k d low n e. want_sent t jobs h o k d n low e)
 
 module _ (most : ℕ) (t : Terms) (h : Turns) (e : Event) (sent : List Outgoing) where
-  abbrev seen : List (List ℕ)
+  abbrev seen : List Name
   seen = names_of (firsts h)
 
   asks_more : (job : Job) → IsRestartable most job → LacksSent t h job → unseen seen (job (told t (Then h e sent))) + asked_for t h job ≤ asked_for t (Then h e sent) job
@@ -102,7 +103,7 @@ module _ (most : ℕ) (t : Terms) (h : Turns) (e : Event) (sent : List Outgoing)
       runs : ℕ
       runs = runs_of t h job
 
-      by_told : (n : List ℕ) → job M ≡ Some n → (r : Option Answer) → N n ≡ r → unseen seen (job N) + (runs + 1) ≤ runs + cond (is_some r) 1 0 + lacking_one (job N)
+      by_told : (n : Name) → job M ≡ Some n → (r : Option Answer) → N n ≡ r → unseen seen (job N) + (runs + 1) ≤ runs + cond (is_some r) 1 0 + lacking_one (job N)
       by_told n w None y =
           let again : job N ≡ Some n = law.waits N M n x w y in
           let old : unseen seen (job N) ≡ 0 = ap (unseen seen) again ∙ ap (λ (b : Bool). cond b 0 1) (has-names n (firsts h) ∙ lacks n w) in
@@ -110,7 +111,7 @@ module _ (most : ℕ) (t : Terms) (h : Turns) (e : Event) (sent : List Outgoing)
           omega (arith, old, one)
       by_told n w (Some a) y = let low = unseen_lacking seen (job N) in omega (arith, low)
 
-      go : (r : Option (List ℕ)) → job M ≡ r → unseen seen (job N) + (runs + lacking_one r) ≤ runs + told_to r N + lacking_one (job N)
+      go : (r : Option Name) → job M ≡ r → unseen seen (job N) + (runs + lacking_one r) ≤ runs + told_to r N + lacking_one (job N)
       go None w = let none : unseen seen (job N) ≡ 0 = ap (unseen seen) (law.done N M x w) in omega (arith, none)
       go (Some n) w = by_told n w (N n) refl
 
@@ -135,7 +136,7 @@ total_begin t sent (job ∷ jobs) =
 asked_few : (most : ℕ) (t : Terms) (h : Turns) (job : Job) → IsRestartable most job → asked_for t h job ≤ most + 1
 asked_few most t h job law = go (job (told t h)) refl
   where
-    go : (r : Option (List ℕ)) → job (told t h) ≡ r → runs_of t h job + lacking_one r ≤ most + 1
+    go : (r : Option Name) → job (told t h) ≡ r → runs_of t h job + lacking_one r ≤ most + 1
     go None e =
         let ran = runs_bound most t h job law in
         let deep = law.within (told t h) in

@@ -4,12 +4,14 @@ use Rattle.std.specs.Prelude.{slice_get}
 use Rattle.std.specs.List.{AllByRecursion, filter, list_any}
 use Rattle.std.proofs.lemmas.Bool.{or_cases, or_parts}
 use Rattle.std.proofs.lemmas.List.{append-nil, length-append}
+use Rattle.pac_names.specs.Comparing.{same_name}
+use Rattle.pac_names.specs.Names.{Name}
 use Rattle.js_host.specs.Answers.{AnswerMap, answer_in}
 use Rattle.poll_log.specs.declared.question.Question.{Question}
 use Rattle.poll_log.specs.declared.terms.Terms.{Terms}
 use Rattle.poll_log.specs.Turns.{Turns}
 use Rattle.poll_log.specs.Beats.{stretches, ticks}
-use Rattle.poll_log.specs.Questions.{firsts, has_name, questions, same_name, was_sent}
+use Rattle.poll_log.specs.Questions.{firsts, has_name, questions, was_sent}
 use Rattle.poll_log.specs.Told.{told}
 use Rattle.poll_log.specs.Jobs.{Job, waits_unless}
 use Rattle.poll_log.specs.Laws.{IsRestartable}
@@ -63,11 +65,11 @@ unseen_by seen qs new = all_unseen seen [] qs (subst (λ (l : List Question). Al
 -- ---- a job that waits
 
 pub record IsAwaited (t : Terms) (h : Turns) : Type 0 where
-  pub name : List ℕ
+  pub name : Name
   pub sent : was_sent h name ≡ true
   pub untold : told t h name ≡ None
 
-pub awaited : (most : ℕ) (t : Terms) (h : Turns) (dead : List ℕ → Bool) (jobs : List Job) → AllByRecursion (IsRestartable most) jobs → AllByRecursion (LacksSent t h) jobs
+pub awaited : (most : ℕ) (t : Terms) (h : Turns) (dead : Name → Bool) (jobs : List Job) → AllByRecursion (IsRestartable most) jobs → AllByRecursion (LacksSent t h) jobs
     → list_any (λ job. waits_unless dead (job (told t h))) jobs ≡ true → IsAwaited t h
 awaited most t h dead [] laws sent e = true_false (sym e)
 awaited most t h dead (job ∷ jobs) laws sent e = elim (or_cases (waits_unless dead (job (told t h))) (list_any (λ (j : Job). waits_unless dead (j (told t h))) jobs) e) [
@@ -75,7 +77,7 @@ awaited most t h dead (job ∷ jobs) laws sent e = elim (or_cases (waits_unless 
   | inr later ↦ awaited most t h dead jobs laws.1 sent.1 later
 ]
   where
-    first : (r : Option (List ℕ)) → job (told t h) ≡ r → waits_unless dead r ≡ true → IsAwaited t h
+    first : (r : Option Name) → job (told t h) ≡ r → waits_unless dead r ≡ true → IsAwaited t h
     first None w k = true_false (sym k)
     first (Some n) w k = record { name = n; sent = sent.0 n w; untold = laws.0.lacks (told t h) n w }
 
@@ -101,10 +103,10 @@ pub record IsPrompt (answers : AnswerMap) (t : Terms) (h : Turns) : Type 0 where
   pub waiting : AllByRecursion (IsUntold t h) due
 
 -- each of these names is told the map's answer
-pub told_among : (answers : AnswerMap) (t : Terms) (h : Turns) (n : List ℕ) (qs : List Question) → AllByRecursion (IsTold answers t h) qs → has_name n qs ≡ true → told t h n ≡ Some (answer_in answers n)
+pub told_among : (answers : AnswerMap) (t : Terms) (h : Turns) (n : Name) (qs : List Question) → AllByRecursion (IsTold answers t h) qs → has_name n qs ≡ true → told t h n ≡ Some (answer_in answers n)
 told_among answers t h n [] all k = true_false (sym k)
 told_among answers t h n (q ∷ qs) all k = elim (or_cases (same_name q.name n) (has_name n qs) k) [
-  | inl same ↦ subst (λ (m : List ℕ). told t h m ≡ Some (answer_in answers m)) (same_is q.name n same) all.0
+  | inl same ↦ subst (λ (m : Name). told t h m ≡ Some (answer_in answers m)) (same_is q.name n same) all.0
   | inr later ↦ told_among answers t h n qs all.1 later
 ]
 
@@ -114,7 +116,7 @@ pub record IsNext (qs : List Question) : Type 0 where
   pub rest : List Question
   pub parts : qs ≡ question ∷ rest
 
-next_of : (n : List ℕ) (qs : List Question) → has_name n qs ≡ true → IsNext qs
+next_of : (n : Name) (qs : List Question) → has_name n qs ≡ true → IsNext qs
 next_of n [] k = true_false (sym k)
 next_of n (q ∷ qs) k = record { question = q; rest = qs; parts = refl }
 

@@ -5,13 +5,15 @@ use Rattle.std.specs.List.{AllByRecursion, list_any}
 use Rattle.std.proofs.lemmas.Bool.{or_parts}
 use Rattle.std.proofs.lemmas.List.{append-nil, length-append, length_push, map_push}
 use Rattle.std.proofs.lemmas.List.Elements.{All-from_recursion, All-nil, recursion_from_All}
+use Rattle.pac_names.specs.Comparing.{same_name}
+use Rattle.pac_names.specs.Names.{Name}
 use Rattle.js_host.specs.Answers.{AnswerMap, answer_in}
 use Rattle.poll_log.specs.declared.question.Question.{Question}
 use Rattle.poll_log.specs.declared.terms.TheConstants.{FLOOD}
 use Rattle.poll_log.specs.declared.terms.Terms.{Terms}
 use Rattle.poll_log.specs.Turns.{Outgoing, Turns, Begin, Then, Event, Given}
 use Rattle.poll_log.specs.Beats.{one_more, stretches, ticks}
-use Rattle.poll_log.specs.Questions.{IsQuestion, asked_in, firsts, has_name, questions, same_name, was_sent}
+use Rattle.poll_log.specs.Questions.{IsQuestion, asked_in, firsts, has_name, questions, was_sent}
 use Rattle.poll_log.specs.Told.{accepted, is_dead, or_else, told}
 use Rattle.poll_log.specs.Jobs.{IsFinished, IsOwed, Job, SendsOwed, WaitsBefore, is_waiting, waits_unless}
 use Rattle.poll_log.specs.Laws.{IsRestartable}
@@ -82,7 +84,7 @@ module _ (answers : AnswerMap) (small : AreAddresses answers) (t : Terms) (jobs 
       ∙ at_due (reply_from answers) MOST_QUESTIONS p.done rest q few
 
   module _ (sent : List Outgoing) where
-    still_untold : (n : List ℕ) → told t h n ≡ None → accepted t h reply n ≡ None → told t (Then h reply sent) n ≡ None
+    still_untold : (n : Name) → told t h n ≡ None → accepted t h reply n ≡ None → told t (Then h reply sent) n ≡ None
     still_untold n untold none = told_next t h reply sent n ∙ ap (λ (a : Option _). or_else a (accepted t h reply n)) untold ∙ none
 
     told_now : IsTold answers t (Then h reply sent) q
@@ -172,10 +174,10 @@ module _ (most : ℕ) (answers : AnswerMap) (small : AreAddresses answers) (t : 
         let long : length (firsts h) ≡ length p.done + length p.due = ap length p.names ∙ length-append p.done p.due in
         omega (arith, named, early, long)
 
-    alive : (n : List ℕ) → is_dead t h n ≡ false
+    alive : (n : Name) → is_dead t h n ≡ false
     alive n = alive_if_young t h n (all_young answers t h p young few.tried n)
 
-    finished : (r : Option (List ℕ)) → waits_unless (is_dead t h) r ≡ false → r ≡ None
+    finished : (r : Option Name) → waits_unless (is_dead t h) r ≡ false → r ≡ None
     finished None e = refl
     finished (Some n) e = true_false (sym (ap not (alive n)) ∙ e)
 

@@ -3,6 +3,7 @@ use Rattle.std.proofs.Common.{◌≡◌, ℕ, zero, suc, ◌+◌, ◌<◌, true,
 use Rattle.std.specs.List.{filter}
 use Rattle.std.proofs.lemmas.List.{append_cancel_left, append-nil, append_assoc, length-append, length-map, map-append, take_at}
 use Rattle.std.proofs.lemmas.List.Elements.{All-nil}
+use Rattle.pac_names.specs.Names.{Name}
 use Rattle.js_host.specs.Answers.{AnswerMap}
 use Rattle.poll_log.specs.declared.question.Question.{Question}
 use Rattle.poll_log.specs.declared.terms.Terms.{Terms}
@@ -51,7 +52,7 @@ ids_of qs = map (λ (q : Question). q.id) qs
 same_question : (one other : Question) → one.id ≡ other.id → one.name ≡ other.name → one ≡ other
 same_question one other e f =
     ap (λ (i : ℕ). let r : Question = record { id = i; name = one.name } in r) e
-    ∙ ap (λ (n : List ℕ). let r : Question = record { id = other.id; name = n } in r) f
+    ∙ ap (λ (n : Name). let r : Question = record { id = other.id; name = n } in r) f
 
 same_questions : (xs ys : List Question) → names_of xs ≡ names_of ys → ids_of xs ≡ ids_of ys → xs ≡ ys
 same_questions [] [] e f = refl

@@ -2,13 +2,15 @@
 use Rattle.std.proofs.Common.{◌≡◌, ℕ, ◌<◌, Bool, false, cond, not, ◌&&◌, nat_le, List, [], ◌∷◌, ◌++◌, Option, Some, None, is_some, refl, sym, ◌∙◌, ap}
 use Rattle.std.proofs.lemmas.Bool.{lt-leb, or_parts}
 use Rattle.pac_names.specs.declared.answer.Answer.{Answer}
+use Rattle.pac_names.specs.Comparing.{same_name}
+use Rattle.pac_names.specs.Names.{Name}
 use Rattle.js_host.specs.Answers.{AnswerMap, answer_in}
 use Rattle.dns_message.specs.Reply.{reply_of}
 use Rattle.dns_message.proofs.QueryLaws.{one_name_law}
 use Rattle.poll_log.specs.declared.question.Question.{Question}
 use Rattle.poll_log.specs.declared.terms.Terms.{Terms}
 use Rattle.poll_log.specs.Turns.{Turns, Given}
-use Rattle.poll_log.specs.Questions.{IsQuestion, firsts, has_name, number_in, same_name}
+use Rattle.poll_log.specs.Questions.{IsQuestion, firsts, has_name, number_in}
 use Rattle.poll_log.specs.Sendings.{limit}
 use Rattle.poll_log.specs.Told.{accepted, accepted_in, age, reply_to}
 use Rattle.poll_log.proofs.Asking.{firsts_named}
@@ -37,7 +39,7 @@ module _ (answers : AnswerMap) (small : AreAddresses answers) (t : Terms) (h : T
       ∙ ap (λ (r : Option ℕ). reply_to r (reply_from answers q) q.name) (ap (λ (qs : List Question). number_in qs q.name) e ∙ number_here done rest q new)
       ∙ reply_told answers small q is
 
-  pub takes_no_other : (n : List ℕ) → same_name q.name n ≡ false → accepted t h (Given (reply_from answers q)) n ≡ None
+  pub takes_no_other : (n : Name) → same_name q.name n ≡ false → accepted t h (Given (reply_from answers q)) n ≡ None
   takes_no_other n other = go (accepted t h (Given (reply_from answers q)) n) refl
     where
       go : (r : Option Answer) → accepted t h (Given (reply_from answers q)) n ≡ r → r ≡ None

@@ -4,6 +4,7 @@ use Rattle.std.specs.List.{All, AllByRecursion, filter}
 use Rattle.std.proofs.lemmas.List.{append-nil, length-map, map-append}
 use Rattle.std.proofs.lemmas.List.Elements.{All-append, All-cons, All-filter, All-nil, All-same}
 use Rattle.pac_names.specs.declared.limits.TheConstants.{MOST_NAMES}
+use Rattle.pac_names.specs.Names.{Name}
 use Rattle.js_host.specs.Answers.{AnswerMap}
 use Rattle.poll_log.specs.declared.question.Question.{Question}
 use Rattle.poll_log.specs.declared.terms.TheConstants.{FLOOD}
@@ -34,27 +35,27 @@ use Rattle.memory_talk.proofs.Same.{AreNumbered, IsSoFar, ids_of, length_numbers
 -- ---- questions under the next numbers
 
 -- for these names, the first under this number
-abbrev numbered_from : ℕ → List (List ℕ) → List Question
+abbrev numbered_from : ℕ → List Name → List Question
 numbered_from i [] = []
 numbered_from i (n ∷ ns) = record { id = number_after i; name = n } ∷ numbered_from (suc i) ns
 
-their_names : (i : ℕ) (ns : List (List ℕ)) → names_of (numbered_from i ns) ≡ ns
+their_names : (i : ℕ) (ns : List Name) → names_of (numbered_from i ns) ≡ ns
 their_names i [] = refl
-their_names i (n ∷ ns) = ap (λ (l : List (List ℕ)). n ∷ l) (their_names (suc i) ns)
+their_names i (n ∷ ns) = ap (λ (l : List Name). n ∷ l) (their_names (suc i) ns)
 
-their_numbers : (i : ℕ) (ns : List (List ℕ)) → first_numbers i ++ ids_of (numbered_from i ns) ≡ first_numbers (i + length ns)
+their_numbers : (i : ℕ) (ns : List Name) → first_numbers i ++ ids_of (numbered_from i ns) ≡ first_numbers (i + length ns)
 their_numbers i [] = append-nil (first_numbers i) ∙ ap first_numbers (let z : i ≡ i + 0 = omega arith in z)
 their_numbers i (n ∷ ns) =
     sym (append_assoc (first_numbers i) (number_after i ∷ []) (ids_of (numbered_from (suc i) ns))) ∙ their_numbers (suc i) ns
     ∙ ap first_numbers (let z : suc i + length ns ≡ i + suc (length ns) = omega arith in z)
 
-all_asked : (i : ℕ) (ns : List (List ℕ)) → AllByRecursion Named ns → All IsQuestion (numbered_from i ns)
+all_asked : (i : ℕ) (ns : List Name) → AllByRecursion Named ns → All IsQuestion (numbered_from i ns)
 all_asked i [] named = All-nil IsQuestion
 all_asked i (n ∷ ns) named =
     All-cons IsQuestion (record { id = number_after i; name = n }) (numbered_from (suc i) ns) (record { number = omega arith; name = named.0 }) (all_asked (suc i) ns named.1)
 
 -- so the numbers go on
-numbers_go_on : (before : List ℕ) (ns : List (List ℕ)) → AreNumbered before → AreNumbered (before ++ ids_of (numbered_from (length before) ns))
+numbers_go_on : (before : List ℕ) (ns : List Name) → AreNumbered before → AreNumbered (before ++ ids_of (numbered_from (length before) ns))
 numbers_go_on before ns numbered =
     let all : before ++ ids_of (numbered_from (length before) ns) ≡ first_numbers (length before + length ns) =
     ap (λ (l : List ℕ). l ++ ids_of (numbered_from (length before) ns)) numbered ∙ their_numbers (length before) ns in
@@ -82,7 +83,7 @@ module _ (answers : AnswerMap) (t : Terms) (jobs : List Job) (w : 0 < t.wait) (r
   unfolding IsAnswered
   begun =
       let M : Map = told t (Begin []) in
-      let ns : List (List ℕ) = once [] (wanted jobs M) in
+      let ns : List Name = once [] (wanted jobs M) in
       let fresh : List Question = numbered_from 0 ns in
       let sent : List Outgoing = first_sent fresh in
       let proper = all_asked 0 ns (asked_at [] M) in
@@ -108,7 +109,7 @@ module _ (answers : AnswerMap) (t : Terms) (jobs : List Job) (w : 0 < t.wait) (r
       let h : Turns = o.turns in
       let e : Event = event_by (due_reply answers h) in
       let M : Map = told t (Then h e []) in
-      let ns : List (List ℕ) = once (names_of (firsts h)) (wanted jobs M) in
+      let ns : List Name = once (names_of (firsts h)) (wanted jobs M) in
       let fresh : List Question = numbered_from (length (drawn h)) ns in
       let falls : Question → Bool = λ q. falls_at t h e q.name in
       let again : List Question = filter falls (firsts h ++ fresh) in

@@ -5,10 +5,11 @@ use Rattle.std.specs.Option.{option_to_list}
 use Rattle.std.proofs.lemmas.Bool.{and_left, and_right}
 use Rattle.std.proofs.lemmas.List.{append-nil}
 use Rattle.pac_names.specs.declared.answer.Answer.{Answer}
-use Rattle.pac_names.specs.declared.answer.Answer.TheVariants.{Address, NoAddress}
+use Rattle.pac_names.specs.declared.answer.Answer.TheVariants.{Address, Address6, NoAddress}
+use Rattle.pac_names.specs.Names.{Name}
 use Rattle.js_host.specs.Answers.{AnswerMap}
 use Rattle.dns_message.specs.Header.{header_of}
-use Rattle.dns_message.specs.Reply.{reply_octets}
+use Rattle.dns_message.specs.Reply.{answer_for, reply_octets, telling}
 use Rattle.dns_message.specs.Truncation.{is_truncated}
 use Rattle.poll_log.specs.declared.flight.Flight.{Flight}
 use Rattle.poll_log.specs.declared.question.Question.{Question}
@@ -24,18 +25,22 @@ use Rattle.memory_talk.proofs.Given.{given_is_reply}
 -- ---- a reply is whole
 
 -- its TC bit is 0
-whole_flags : (id : ℕ) (name : List ℕ) (answer : Answer) → (header_of (reply_octets id name answer)).tc ≡ false
-unfolding reply_octets
-whole_flags id name (Address address) = refl
-whole_flags id name NoAddress = refl
+told_flags : (id : ℕ) (name : Name) (answer : Answer) → (header_of (telling id name answer)).tc ≡ false
+told_flags id name (Address address) = refl
+told_flags id name (Address6 address) = refl
+told_flags id name NoAddress = refl
 
-without_bit : (datagram : List ℕ) → (header_of datagram).tc ≡ false → (id : ℕ) (name : List ℕ) → is_truncated datagram id name ≡ false
+whole_flags : (id : ℕ) (name : Name) (answer : Answer) → (header_of (reply_octets id name answer)).tc ≡ false
+unfolding reply_octets
+whole_flags id name answer = told_flags id name (answer_for name.kind answer)
+
+without_bit : (datagram : List ℕ) → (header_of datagram).tc ≡ false → (id : ℕ) (name : Name) → is_truncated datagram id name ≡ false
 unfolding is_truncated
 without_bit datagram e id name = and_left _ _ (and_right _ _ (and_left _ _ (and_right _ _ e)))
 
 -- the datagram is truncated for no question
 abbrev IsWhole : List ℕ → Type 0
-IsWhole datagram = (id : ℕ) (name : List ℕ) → is_truncated datagram id name ≡ false
+IsWhole datagram = (id : ℕ) (name : Name) → is_truncated datagram id name ≡ false
 
 given_whole : (answers : AnswerMap) (turns : Turns) (datagram : List ℕ) → Given datagram ≡ event_by (due_reply answers turns) → IsWhole datagram
 given_whole answers turns datagram due =

@@ -4,10 +4,13 @@ use Rattle.std.specs.Prelude.{◌≡◌, ℕ, ◌*◌, ◌<◌, ◌≤◌, ◌^�
 use Rattle.std.specs.List.{All}
 use Rattle.std.specs.FinMap as map
 use Rattle.pac_names.specs.declared.answer.Answer.{Answer}
-use Rattle.pac_names.specs.declared.answer.Answer.TheVariants.{Address}
+use Rattle.pac_names.specs.declared.answer.Answer.TheVariants.{Address, Address6, NoAddress}
+use Rattle.pac_names.specs.declared.kind.NameKind.{NameKind}
+use Rattle.pac_names.specs.declared.kind.NameKind.TheVariants.{V4, V6}
 use Rattle.pac_names.specs.declared.limits.TheConstants.{MOST_NAMES}
 use Rattle.batch_text.specs.declared.batch.TheConstants.{MOST_URLS}
-use Rattle.js_host.specs.Answers.{AnswerMap, Name, answer_in}
+use Rattle.pac_names.specs.Names.{Name}
+use Rattle.js_host.specs.Answers.{AnswerMap, answer_in}
 use Rattle.pac_ports.specs.declared.link.Move.{Move}
 use Rattle.run_trees.specs.RunTree.{RunTree}
 use Rattle.run_trees.specs.WholeRun.{whole_run}
@@ -29,9 +32,17 @@ use Rattle.pac_generate.specs.Names.{site_map}
 use Rattle.pac_generate.specs.declared.limits.TheConstants.{MOST_MOVES, MOST_QUESTIONS}
 use Rattle.memory_talk.specs.Talks.{IsMemoryLog}
 
--- each address of the map has 32 bits
+-- an address has the family that is asked for, and its bits: 32 of IPv4, 128 of IPv6
+abbrev pub IsAddressOf : Answer → NameKind → Type 0
+IsAddressOf (Address address) V4 = address < 2 ^ 32
+IsAddressOf (Address address) V6 = ⊥
+IsAddressOf (Address6 address) V4 = ⊥
+IsAddressOf (Address6 address) V6 = address < 2 ^ 128
+IsAddressOf NoAddress kind = Unit {0}
+
+-- each address of the map is one of its name's family
 abbrev pub AreAddresses : AnswerMap → Type 0
-AreAddresses answers = (name : Name) (address : ℕ) → map.get answers name ≡ Some (Address address) → address < 2 ^ 32
+AreAddresses answers = (name : Name) (answer : Answer) → map.get answers name ≡ Some answer → IsAddressOf answer name.kind
 
 -- what is told of a name is the map's answer to it
 abbrev pub ToldIsTheMaps : Type 0

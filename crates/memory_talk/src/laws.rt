@@ -24,7 +24,7 @@ pub fn agrees_with_the_map<End>()
     ensures { AgreesWithTheMap End }
 {}
 
-/// The answers for generated sites are addresses of 32 bits.
+/// The answers for generated sites are addresses of the family that their names ask for.
 pub fn sites_have_addresses()
     ensures { SitesHaveAddresses }
 {}

@@ -27,6 +27,7 @@ fn answer(alloc: Global, part: &str, fields: &[&str]) -> Result<String> {
         "same names" => wire_names::are_same(alloc, fields),
         "written names" => wire_names::written(alloc, fields),
         "lookup names" => names::lookup(alloc, fields),
+        "IPv6 lookup names" => names::lookup6(alloc, fields),
         "quads" => names::address(alloc, fields),
         "networks" => names::is_in_network(alloc, fields),
         "keys" => names::keys(alloc, fields),

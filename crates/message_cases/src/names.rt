@@ -2,7 +2,7 @@
 use crate::replies::written_answer;
 use anyhow::{Context, Result, bail};
 use case_rows::{text, written_octets};
-use pac_names::{Answer, LookupName, bad_quad, in_net, lookup_name, quad};
+use pac_names::{Answer, LookupName, NameKind, bad_quad, in_net, lookup_name, lookup_name6, quad};
 use std::alloc::Global;
 use std::collections::{BTreeMap, HashMap};
 
@@ -10,8 +10,32 @@ pub(crate) fn word(alloc: Global, word: &str) -> Result<String> {
     Ok(String::from_str(alloc, word)?)
 }
 
+/// The name of a field, of kind V6 where ` AAAA` stands behind it.
 pub(crate) fn name_in(_alloc: Global, field: &str) -> Result<LookupName> {
-    LookupName::from_bytes(field.as_bytes()).context("a name")
+    match field.strip_suffix(" AAAA") {
+        Some(bytes) => {
+            let name = LookupName::from_bytes(bytes.as_bytes()).context("a name")?;
+            Ok(name.with_kind(NameKind::V6))
+        }
+        None => LookupName::from_bytes(field.as_bytes()).context("a name"),
+    }
+}
+
+/// A name as a field has it.
+pub(crate) fn written_name(alloc: Global, name: &LookupName) -> Result<String> {
+    let mut field = written_octets(alloc, name.bytes())?;
+    match name.kind() {
+        NameKind::V4 => {}
+        NameKind::V6 => field.push_str(" AAAA")?,
+    }
+    Ok(field)
+}
+
+fn written_if_any(alloc: Global, name: Option<LookupName>) -> Result<String> {
+    match name {
+        Some(name) => written_name(alloc, &name),
+        None => word(alloc, "nothing"),
+    }
 }
 
 /// The lookup name that a text spells.
@@ -19,10 +43,15 @@ pub(crate) fn lookup(alloc: Global, fields: &[&str]) -> Result<String> {
     let [field] = fields else {
         bail!("a text");
     };
-    match lookup_name(&text(alloc, field)?) {
-        Some(name) => written_octets(alloc, name.bytes()),
-        None => word(alloc, "nothing"),
-    }
+    written_if_any(alloc, lookup_name(&text(alloc, field)?))
+}
+
+/// The same of kind V6.
+pub(crate) fn lookup6(alloc: Global, fields: &[&str]) -> Result<String> {
+    let [field] = fields else {
+        bail!("a text");
+    };
+    written_if_any(alloc, lookup_name6(&text(alloc, field)?))
 }
 
 /// The address that a text writes as four numbers, and whether it is such with a number over 255.

@@ -1,6 +1,6 @@
 // Questions and replies, read and written.
 use crate::messages::message_in;
-use crate::names::{name_in, word};
+use crate::names::{name_in, word, written_name};
 use anyhow::{Result, bail};
 use case_rows::written_octets;
 use dns_message::{read_query, read_reply, truncated, write_query, write_reply};
@@ -14,9 +14,11 @@ fn number_in(field: &str) -> Result<u16> {
     Ok(u16::from_str_radix(field, 16)?)
 }
 
+/// An address of 8 digits or of 32, or `no address`.
 fn answer_in(field: &str) -> Result<Answer> {
     match field {
         "no address" => Ok(Answer::NoAddress),
+        _ if field.len() > 8 => Ok(Answer::Address6(u128::from_str_radix(field, 16)?)),
         _ => Ok(Answer::Address(u32::from_str_radix(field, 16)?)),
     }
 }
@@ -26,6 +28,7 @@ pub(crate) fn written_answer(alloc: Global, answer: Option<Answer>) -> Result<St
         None => word(alloc, "nothing"),
         Some(Answer::NoAddress) => word(alloc, "no address"),
         Some(Answer::Address(address)) => Ok(format!(in alloc; "{address:08x}")?),
+        Some(Answer::Address6(address)) => Ok(format!(in alloc; "{address:032x}")?),
     }
 }
 
@@ -81,7 +84,7 @@ pub(crate) fn question(alloc: Global, fields: &[&str]) -> Result<String> {
     match read_query(&message_in(alloc, fields)?) {
         None => word(alloc, "nothing"),
         Some((number, name)) => {
-            let name = written_octets(alloc, name.bytes())?;
+            let name = written_name(alloc, &name)?;
             Ok(format!(in alloc; "{number:04x} {}", name.as_str())?)
         }
     }

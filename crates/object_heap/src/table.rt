@@ -57,7 +57,7 @@ pub(crate) const RANGE_ERROR: ObjectId = ObjectId(19);
 pub(crate) const REFERENCE_ERROR: ObjectId = ObjectId(20);
 
 /// How many natives there are: their numbers are those below it.
-pub(crate) const NATIVES: u16 = 69;
+pub(crate) const NATIVES: u16 = 72;
 
 /// The first native that has no name above. From it on the natives stand behind the objects that have one, in the order
 /// of their numbers.
@@ -172,6 +172,9 @@ const GLOBAL_ROWS: &[TableRow] = &[
     ("weekdayRange", native!(23), "", true),
     ("dateRange", native!(24), "", true),
     ("timeRange", native!(25), "", true),
+    ("dnsResolveEx", native!(69), "", true),
+    ("isResolvableEx", native!(70), "", true),
+    ("isInNetEx", native!(71), "", true),
     ("undefined", Undefined, "", false),
     ("NaN", LeftOut, "NaN", false),
     ("Infinity", LeftOut, "Infinity", false),

@@ -6,6 +6,7 @@ use Rattle.std.proofs.lemmas.List.{append-nil}
 use Rattle.std.proofs.lemmas.List.Elements.{All-nil}
 use mathlib.Core.Path.{fun_ext}
 use Rattle.pac_names.specs.declared.answer.Answer.{Answer}
+use Rattle.pac_names.specs.Names.{Name}
 use Rattle.dns_message.specs.Reply.{reply_of}
 use Rattle.poll_log.specs.declared.question.Question.{Question}
 use Rattle.poll_log.specs.declared.sending.Sending.{Sending}
@@ -37,18 +38,18 @@ names_none [] e = refl
 names_none (q ∷ qs) e = cc
 
 -- the one question
-record One (name : List ℕ) (qs : List Question) : Type 0 where
+record One (name : Name) (qs : List Question) : Type 0 where
   pub question : Question
   pub alone : qs ≡ question ∷ []
   pub named : question.name ≡ name
 
-one_of : (name : List ℕ) (qs : List Question) → names_of qs ≡ name ∷ [] → One name qs
+one_of : (name : Name) (qs : List Question) → names_of qs ≡ name ∷ [] → One name qs
 one_of name [] e = cc
 one_of name (q ∷ []) e = record { question = q; alone = refl; named = (cons_parts _ _ _ _ e).0 }
 one_of name (q ∷ r ∷ qs) e = let f = (cons_parts _ _ _ _ e).1 in cc
 
 -- What a datagram answers to it.
-module _ (name : List ℕ) (L : ℕ) (M : Map) (a : List ℕ → ℕ) (q : Question) (d : List ℕ) where
+module _ (name : Name) (L : ℕ) (M : Map) (a : Name → ℕ) (q : Question) (d : List ℕ) where
   answer_here : found_or (answered_by d (flights_in L M a (q ∷ []))) (M q.name) ≡ or_else (M q.name) (accepted_in L a (q ∷ []) d q.name)
   unfolding accepted_in number_in
   answer_here =
@@ -84,7 +85,7 @@ heard Tick stub answer = answer
 abbrev pub again_at : Bool → Event → StubState → List Sending
 again_at b e stub = again_if b (receiving e stub)
 
-module _ (t : Terms) (name : List ℕ) (w : 0 < t.wait) (r : 0 < t.tries) (h : Turns) (asked : names_of (firsts h) ≡ name ∷ []) where
+module _ (t : Terms) (name : Name) (w : 0 < t.wait) (r : 0 < t.tries) (h : Turns) (asked : names_of (firsts h) ≡ name ∷ []) where
   one : One name (firsts h)
   one = one_of name (firsts h) asked
 

@@ -1,9 +1,9 @@
 -- One name at the start.
-use Rattle.std.proofs.Common.{◌≡◌, ℕ, List, [], ◌∷◌, ◌++◌, map, Option, Some, None, IsTrue, refl, sym, ◌∙◌, ap, subst, arith}
+use Rattle.std.proofs.Common.{◌≡◌, List, [], ◌∷◌, ◌++◌, map, Option, Some, None, IsTrue, refl, sym, ◌∙◌, ap, subst, arith}
 use Rattle.std.specs.List.{cons_option}
 use Rattle.std.proofs.lemmas.List.Elements.{All-cons, All-nil}
 use Rattle.pac_names.specs.declared.answer.Answer.{Answer}
-use Rattle.pac_names.specs.Names.{is_lookup_name}
+use Rattle.pac_names.specs.Names.{is_lookup_name, Name}
 use Rattle.pac_ports.specs.Dice.{DiceTold, Gave}
 use Rattle.poll_log.specs.declared.question.Question.{Question}
 use Rattle.poll_log.specs.declared.sending.Sending.{Sending}
@@ -57,7 +57,7 @@ stands_begin t q w p =
     asks : names_of (q ∷ []) ≡ once [] (wanted (job_of q.name ∷ []) (told t (Begin (first_sent (q ∷ [])))))
     asks = sym (ap (λ m. once [] (cons_option (lacking_or q.name m None) [])) (told-begin t sent q.name) ∙ once-new [] q.name refl)
 
-in_order : (name : List ℕ) → AsksInOrder MOST_NAMES (λ map. name ∷ [])
+in_order : (name : Name) → AsksInOrder MOST_NAMES (λ map. name ∷ [])
 in_order name =
     record {
       done = λ larger smaller x e. refl;
@@ -69,7 +69,7 @@ in_order name =
     go None = refl
     go (Some x) = refl
 
-pub sound : (t : Terms) (name : List ℕ) → AreTerms t → IsTrue (is_lookup_name name) → IsSound (task_of t name)
+pub sound : (t : Terms) (name : Name) → AreTerms t → IsTrue (is_lookup_name name) → IsSound (task_of t name)
 sound t name w named =
     record {
       terms = record { waits = w.waits; tried = w.tried };
@@ -78,7 +78,7 @@ sound t name w named =
       unsent_runs = λ turns sent. refl;
     }
   where
-    go : (m : Option Answer) (n : List ℕ) → lacking_or name m None ≡ Some n → IsTrue (is_lookup_name n)
+    go : (m : Option Answer) (n : Name) → lacking_or name m None ≡ Some n → IsTrue (is_lookup_name n)
     go None n e = let same : name ≡ n = cc in subst (λ x. IsTrue (is_lookup_name x)) same named
     go (Some x) n e = none_some n e
 

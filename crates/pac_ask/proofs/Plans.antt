@@ -2,7 +2,7 @@
 use Rattle.std.proofs.Common.{◌≡◌, ℕ, List, [], ◌∷◌, Option, Some, None, inl, refl, sym, ◌∙◌, ap, arith}
 use Rattle.pac_names.specs.declared.answer.Answer.{Answer}
 use Rattle.std.specs.Prelude.{IsTrue}
-use Rattle.pac_names.specs.Names.{is_lookup_name, lookup_name_of}
+use Rattle.pac_names.specs.Names.{is_lookup_name, lookup_name_of, Name}
 use Rattle.pac_names.specs.Quads.{quad_of}
 use Rattle.pac_ports.specs.Dice.{DiceTold, Gave}
 use Rattle.poll_log.specs.declared.terms.Terms.{Terms}
@@ -31,7 +31,7 @@ use Rattle.pac_ask.proofs.Begin.{sound}
 pub memory_first : (upstream : Upstream) (text : List ℕ) (o : Outside) → Follows talks (ask_plan upstream text) o o None
 memory_first upstream text o = by_quad (quad_of text)
   where
-    by_name : (name : Option (List ℕ)) → Follows talks (name_plan upstream name) o o None
+    by_name : (name : Option Name) → Follows talks (name_plan upstream name) o o None
     by_name None = (refl, tt)
     by_name (Some name) = (unfinished, [], not_begun (talk_of upstream name) o, refl)
 
@@ -40,7 +40,7 @@ memory_first upstream text o = by_quad (quad_of text)
     by_quad (Some address) = (refl, tt)
 
 -- memory ran out when a number had been drawn
-pub memory_drawn : (upstream : Upstream) (name : List ℕ) → AreTerms upstream.terms → IsTrue (is_lookup_name name) → (o : Outside) (id : ℕ) (dice : Option DiceTold) → Gave o.dice id dice → Follows talks (name_plan upstream (Some name)) o (record o { dice = dice }) None
+pub memory_drawn : (upstream : Upstream) (name : Name) → AreTerms upstream.terms → IsTrue (is_lookup_name name) → (o : Outside) (id : ℕ) (dice : Option DiceTold) → Gave o.dice id dice → Follows talks (name_plan upstream (Some name)) o (record o { dice = dice }) None
 unfolding firsts new_among with_moves flat_behind AreFramed moves_of
 memory_drawn upstream name terms named o id dice g =
     let is_sound : IsSound (task_of upstream.terms name) = sound upstream.terms name terms named in (
@@ -64,15 +64,15 @@ memory_drawn upstream name terms named o id dice g =
     )
 
 -- what a job lacks where nothing is told
-first_lack : List Job → Option (List ℕ)
+first_lack : List Job → Option Name
 first_lack [] = None
 first_lack (job ∷ jobs) = job (λ n. None)
 
-some_same : (x y : List ℕ) → Some x ≡ Some y → x ≡ y
+some_same : (x y : Name) → Some x ≡ Some y → x ≡ y
 some_same x y e = cc
 
 -- the answer that is held is the one that is told
-pub held_is_told : (t : Terms) (name name' : List ℕ) (answer : Option Answer) (t' : Terms) (stub : StubState) (n : ℕ) (log : _) → Stands name' answer t' stub n (task_of t name) (turns_of log) → told_output name' answer ≡ told_output name (told t (turns_of log) name)
+pub held_is_told : (t : Terms) (name name' : Name) (answer : Option Answer) (t' : Terms) (stub : StubState) (n : ℕ) (log : _) → Stands name' answer t' stub n (task_of t name) (turns_of log) → told_output name' answer ≡ told_output name (told t (turns_of log) name)
 unfolding first_lack
 held_is_told t name name' answer t' stub n log s =
     let terms : t ≡ t' = ap (λ (x : Task). x.terms) s.same in

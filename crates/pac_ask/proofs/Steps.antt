@@ -16,6 +16,7 @@ use Rattle.poll_log.proofs.Names.{true_false}
 use Rattle.stub_poller.proofs.Ages.{lasts}
 use Rattle.stub_poller.proofs.Driving.{driven_flights, driven_shows, driven_terms}
 use Rattle.std.specs.Prelude.{is_some, if◌then◌else◌}
+use Rattle.pac_names.specs.Names.{Name}
 use Rattle.stub_poller.specs.State.{StubState, beaten, given, is_dead_in, resent}
 use Rattle.stub_poller.specs.Driven.{beaten_if, driven, receiving}
 use Rattle.poll_loop.specs.Counting.{HasCounted}
@@ -27,7 +28,7 @@ use Rattle.pac_ask.specs.OneName.{StandsFor, hearing}
 use Rattle.pac_ask.specs.declared.one_name.OneName.{OneName}
 use Rattle.pac_ask.proofs.Asked.{again_at, flying_on, heard, heard_is_told, none_drawn, now, owed, still_asked}
 
-module _ (name : List ℕ) (answer : Option Answer) (t : Terms) (stub : StubState) (n : ℕ) (task : Task) (h : Turns) (s : Stands name answer t stub n task h) (e : Event) (dice : Option DiceTold) (runs : ℕ) where
+module _ (name : Name) (answer : Option Answer) (t : Terms) (stub : StubState) (n : ℕ) (task : Task) (h : Turns) (s : Stands name answer t stub n task h) (e : Event) (dice : Option DiceTold) (runs : ℕ) where
   module _ (b : Bool) (beat : b ≡ is_beat h e) (n' : ℕ) (counts : (sent : List Outgoing) → HasCounted n' (Then h e sent)) where
     whole : Stepped (λ turns. Stands name (heard e stub answer) t (beaten_if b (receiving e stub)) n' task turns) task h e (now t name s.ranges.waits s.ranges.tried h s.asked s.sends e) dice dice runs runs
     whole =
@@ -65,7 +66,7 @@ module _ (name : List ℕ) (answer : Option Answer) (t : Terms) (stub : StubStat
       }
 
 -- what is in flight, and whether nobody waits
-module _ (name : List ℕ) (answer : Option Answer) (t : Terms) (stub : StubState) (n : ℕ) (task : Task) (h : Turns) (s : Stands name answer t stub n task h) where
+module _ (name : Name) (answer : Option Answer) (t : Terms) (stub : StubState) (n : ℕ) (task : Task) (h : Turns) (s : Stands name answer t stub n task h) where
   dead_here : is_dead_in name stub ≡ is_dead t h name
   unfolding is_dead dead_in
   dead_here =

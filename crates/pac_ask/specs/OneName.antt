@@ -1,6 +1,7 @@
 -- One name, as contracts see it.
 use Rattle.std.specs.Prelude.{ℕ, List, Option, Some, None}
 use Rattle.pac_names.specs.declared.answer.Answer.{Answer}
+use Rattle.pac_names.specs.Names.{Name}
 use Rattle.poll_log.specs.declared.question.Question.{Question}
 use Rattle.poll_log.specs.declared.terms.Terms.{Terms}
 use Rattle.poll_log.specs.Turns.{Turns, Event, Given, Tick}
@@ -17,7 +18,7 @@ abbrev pub new_one : Terms → Question → OneName
 new_one terms question = record { name = question.name; answer = None; terms = terms; stub = asking question (new_stub terms); beats = 0 }
 
 -- the answer found, or else what was there
-abbrev pub found_or : Option (List ℕ × Answer) → Option Answer → Option Answer
+abbrev pub found_or : Option (Name × Answer) → Option Answer → Option Answer
 found_or None answer = answer
 found_or (Some found) answer = Some found.1
 

@@ -104,6 +104,9 @@ fn answered(alloc: Global, answer: Answer) -> Result<Output, Memory>
             &quad_text(alloc, address)?,
             "",
         ),
-        Answer::NoAddress => line(alloc, Status::Good, "no address", "", ""),
+        // An IPv6 address is none: an IPv4 address was asked.
+        Answer::Address6(_) | Answer::NoAddress => {
+            line(alloc, Status::Good, "no address", "", "")
+        }
     }
 }

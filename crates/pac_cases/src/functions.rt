@@ -1,5 +1,6 @@
 // Calls of the functions that scripts are handed.
 use crate::clocks::moments_in;
+use crate::names::name_in;
 use answer_table::AnswerTable;
 use anyhow::{Context, Result, bail, ensure};
 use case_rows::{Sample, samples, written_text};
@@ -7,7 +8,7 @@ use heap_values::{ObjectId, Value};
 use js_convert::to_text;
 use pac_calendar::Moments;
 use pac_functions::{PacAnswer, PacFunction, PacSettings, call_pac};
-use pac_names::{Answer, LookupName};
+use pac_names::{Answer, LookupName, NameKind};
 use std::alloc::Global;
 use tracing_host::TracingHost;
 use utf16_text::Text;
@@ -15,8 +16,7 @@ use utf16_text::Text;
 /// 192.168.1.10, the machine's own address in these rows.
 const SETTINGS: PacSettings = PacSettings { my_ip: 0xC0A8_010A };
 
-/// What a call gives, what it asked and what it told, over a host that knows `home.netscape.com` and that
-/// `www.netscape.com` has no address, and on a Sunday at noon in GMT.
+/// What a call gives, what it asked and what it told, over a host that knows some names, and on a Sunday at noon in GMT.
 pub(crate) fn called(alloc: Global, fields: &[&str]) -> Result<String> {
     told_after(alloc, 0, fields)
 }
@@ -39,7 +39,7 @@ fn told_after(alloc: Global, asked: u32, call: &[&str]) -> Result<String> {
     let mut told = written(alloc, &answer)?;
     for name in host.asked().as_slice().iter().skip(asked as usize) {
         told.push_str(", asked ")?;
-        told.push_str(name_text(name)?)?;
+        push_name(alloc, &mut told, name)?;
     }
     tell_alerts(alloc, host.alerts().as_slice(), &mut told)?;
     Ok(told)
@@ -70,17 +70,66 @@ fn tell_alerts(alloc: Global, alerts: &[Text], told: &mut String) -> Result<()> 
     Ok(())
 }
 
+/// 2001:db8::, of the prefix for documentation (RFC 3849).
+const EXAMPLE6: u128 = 0x2001_0db8_0000_0000_0000_0000_0000_0000;
+
 /// The answers that the host knows.
 fn known(alloc: Global) -> Result<AnswerTable> {
     let mut table = AnswerTable::new(alloc);
     let home = Answer::Address(0xC65F_F94F);
     learn(alloc, &mut table, "home.netscape.com", home)?;
+    learn(
+        alloc,
+        &mut table,
+        "home.netscape.com AAAA",
+        Answer::NoAddress,
+    )?;
     learn(alloc, &mut table, "www.netscape.com", Answer::NoAddress)?;
+    learn(
+        alloc,
+        &mut table,
+        "www.netscape.com AAAA",
+        Answer::NoAddress,
+    )?;
+    learn_families(alloc, &mut table)?;
     Ok(table)
 }
 
+/// Both addresses of one name, the IPv6 address of two, of which one has no other, and of one the answers in each
+/// other's place.
+fn learn_families(alloc: Global, table: &mut AnswerTable) -> Result<()> {
+    let four = Answer::Address(0x0A00_0001);
+    learn(alloc, table, "both.example", four)?;
+    learn(
+        alloc,
+        table,
+        "both.example AAAA",
+        Answer::Address6(EXAMPLE6 + 1),
+    )?;
+    learn(alloc, table, "six.example", Answer::NoAddress)?;
+    learn(
+        alloc,
+        table,
+        "six.example AAAA",
+        Answer::Address6(EXAMPLE6 + 2),
+    )?;
+    learn(
+        alloc,
+        table,
+        "half.example AAAA",
+        Answer::Address6(EXAMPLE6 + 3),
+    )?;
+    learn(
+        alloc,
+        table,
+        "crossed.example",
+        Answer::Address6(EXAMPLE6 + 4),
+    )?;
+    learn(alloc, table, "crossed.example AAAA", four)
+}
+
 fn learn(alloc: Global, table: &mut AnswerTable, name: &str, answer: Answer) -> Result<()> {
-    let name = LookupName::from_bytes(name.as_bytes()).context("a lookup name")?;
+    let name = name_in(name)?;
     ensure!(table.get(&name).is_none(), "each name once");
     table.insert(alloc, name, answer)?;
     Ok(())
@@ -101,6 +150,9 @@ fn function_named(name: &str) -> Result<PacFunction> {
         "weekdayRange" => PacFunction::WeekdayRange,
         "dateRange" => PacFunction::DateRange,
         "timeRange" => PacFunction::TimeRange,
+        "dnsResolveEx" => PacFunction::DnsResolveEx,
+        "isResolvableEx" => PacFunction::IsResolvableEx,
+        "isInNetEx" => PacFunction::IsInNetEx,
         _ => bail!("no function {name}"),
     })
 }
@@ -127,12 +179,21 @@ fn written(alloc: Global, answer: &PacAnswer) -> Result<String> {
             Ok(format!(in alloc; "'{}'", text.as_str())?)
         }
         PacAnswer::Value(value) => written_text(alloc, &to_text(alloc, value)?),
-        PacAnswer::Missing(name) => Ok(format!(in alloc; "missing {}", name_text(name)?)?),
+        PacAnswer::Missing(name) => {
+            let mut told = String::from_str(alloc, "missing ")?;
+            push_name(alloc, &mut told, name)?;
+            Ok(told)
+        }
         PacAnswer::TooMany => Ok(String::from_str(alloc, "too many")?),
         PacAnswer::Memory => bail!("want of memory"),
     }
 }
 
-fn name_text(name: &LookupName) -> Result<&str> {
-    Ok(std::str::from_utf8(name.bytes())?)
+/// Writes a name, and the type AAAA behind it where its IPv6 address is asked.
+fn push_name(_alloc: Global, told: &mut String, name: &LookupName) -> Result<()> {
+    told.push_str(std::str::from_utf8(name.bytes())?)?;
+    if name.kind() == NameKind::V6 {
+        told.push_str(" AAAA")?;
+    }
+    Ok(())
 }

@@ -2,13 +2,14 @@
 ghost use Rattle.std.specs.Prelude.{◌≡◌};
 
 use crate::batches;
+use crate::names::name_in;
 use answer_table::AnswerTable;
 use anyhow::{Context, Result, bail, ensure};
 use batch_text::MOST_URLS;
 use case_rows::written_text;
 use dns_message::{read_reply, write_query};
 use pac_generate::{Generated, KnownAnswers, MapLink, Summary, generate, kinds_of, summary_text};
-use pac_names::{Answer, LookupName, quad_text};
+use pac_names::{Answer, quad_text};
 use pac_ports::{Got, Link, Which};
 use proxy_list::{ProxyKind, parse_entry};
 use std::alloc::Global;
@@ -45,7 +46,7 @@ pub(crate) fn answers(alloc: Global, fields: &[&str]) -> Result<String> {
     let made = generated(alloc, seed, sites)?;
     let mut told = String::new(alloc);
     for name in names {
-        let name = LookupName::from_bytes(name.as_bytes()).context("a lookup name")?;
+        let name = name_in(name)?;
         add(alloc, &mut told, &written(alloc, made.map.get(&name))?)?;
     }
     Ok(told)
@@ -62,6 +63,7 @@ fn add(_alloc: Global, told: &mut String, more: &str) -> Result<()> {
 fn written(alloc: Global, answer: Option<Answer>) -> Result<String> {
     Ok(match answer {
         Some(Answer::Address(address)) => quad_text(alloc, address)?,
+        Some(Answer::Address6(address)) => format!(in alloc; "{address:032x}")?,
         Some(Answer::NoAddress) => String::from_str(alloc, "no address")?,
         None => String::from_str(alloc, "nothing")?,
     })
@@ -105,7 +107,7 @@ fn replied<K: KnownAnswers>(alloc: Global, known: &AnswerTable, names: &[&str]) 
 const NUMBER: u16 = 7;
 
 fn ask<N: Link>(link: &mut N, to: Which, name: &str) -> Result<()> {
-    let name = LookupName::from_bytes(name.as_bytes()).context("a lookup name")?;
+    let name = name_in(name)?;
     let mut buffer = [0; 512];
     let length = write_query(&mut buffer, NUMBER, &name);
     match link.send(to, &buffer[..length]) {
@@ -116,7 +118,7 @@ fn ask<N: Link>(link: &mut N, to: Which, name: &str) -> Result<()> {
 
 /// What comes next, as a reply to the question for this name.
 fn reply<N: Link>(alloc: Global, link: &mut N, name: &str) -> Result<String> {
-    let name = LookupName::from_bytes(name.as_bytes()).context("a lookup name")?;
+    let name = name_in(name)?;
     let mut buffer = [0; 512];
     match link.receive(&mut buffer, 512) {
         Ok(Got::Datagram(count)) => {

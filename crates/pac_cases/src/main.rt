@@ -36,6 +36,7 @@ fn answer(alloc: Global, part: &str, fields: &[&str]) -> Result<String> {
         "calls after other names" => functions::called_late(alloc, fields),
         "files of names" => names::told(alloc, fields),
         "long files of names" => names::told_behind(alloc, fields),
+        "names told whole" => names::told_whole(alloc, fields),
         "batches" => batches::asked(alloc, fields),
         "long batches" => batches::counted(alloc, fields),
         "generated scripts" => generated::script(alloc, fields),

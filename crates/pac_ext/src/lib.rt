@@ -17,4 +17,4 @@ mod write;
 
 pub use prefix::in_prefix;
 pub use read::quad6;
-pub use write::write6;
+pub use write::{LONGEST, write6};

@@ -10,7 +10,7 @@ use crate::row::{Row, longest_row};
 use arrayvec::ArrayVec;
 
 /// The longest text of an address: eight groups of four digits, and seven colons.
-const LONGEST: usize = 39;
+pub const LONGEST: usize = 39;
 
 /// Writes the plain spelling of an address to the front of a buffer; gives its length. Digits are in lower case and
 /// without leading zeros, and the first longest row of two zero groups or more is `::` (RFC 5952, section 4).

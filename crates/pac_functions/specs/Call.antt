@@ -1,6 +1,6 @@
 -- What a call of a function asks and tells the host of the run, and how it ends (the page on the Netscape Navigator Proxy
--- Auto-Config format; `alert` is this project's).
-use Rattle.std.specs.Prelude.{ℕ, List, map, Some, is_some}
+-- Auto-Config format; `alert` and the three functions on both families are this project's).
+use Rattle.std.specs.Prelude.{ℕ, List, map, not, length, ◌==◌, Some, is_some}
 use Rattle.heap_values.specs.declared.value.Value.{Value}
 use Rattle.heap_values.specs.declared.value.Value.TheVariants as value
 use Rattle.pac_calendar.specs.declared.argument.CalendarArg.{CalendarArg}
@@ -11,11 +11,13 @@ use Rattle.pac_calendar.specs.Times.{is_in_time_range}
 use Rattle.pac_calendar.specs.Weekdays.{is_in_weekday_range}
 use Rattle.pac_match.specs.Matching.{is_match}
 use Rattle.pac_names.specs.Quads.{quad_of}
+use Rattle.pac_ext.specs.Prefixes.{is_in_prefix}
 use Rattle.run_trees.specs.RunTree.{RunTree, Done, Tell}
 use Rattle.pac_functions.specs.declared.call.PacFunction.{PacFunction}
 use Rattle.pac_functions.specs.declared.call.PacFunction.TheVariants as function
 use Rattle.pac_functions.specs.Texts.{text_in, is_plain, ends_in_domain, is_host_or_first, levels_of}
 use Rattle.pac_functions.specs.Addresses.{PacEnd, Gives, quad_result, is_address_in, resolved}
+use Rattle.pac_functions.specs.Families.{both_resolved}
 
 -- the call ends with a value
 abbrev pub gives : Value → RunTree PacEnd
@@ -46,3 +48,6 @@ pac_call function.Alert args now my_ip = Tell (text_in args 0) (gives value.Unde
 pac_call function.WeekdayRange args now my_ip = gives (value.Bool (is_in_weekday_range now (calendar_args args)))
 pac_call function.DateRange args now my_ip = gives (value.Bool (is_in_date_range now (calendar_args args)))
 pac_call function.TimeRange args now my_ip = gives (value.Bool (is_in_time_range now (calendar_args args)))
+pac_call function.DnsResolveEx args now my_ip = both_resolved args (λ text. gives (value.Text text))
+pac_call function.IsResolvableEx args now my_ip = both_resolved args (λ text. gives (value.Bool (not (length text == 0))))
+pac_call function.IsInNetEx args now my_ip = gives (value.Bool (is_in_prefix (text_in args 0) (text_in args 1)))

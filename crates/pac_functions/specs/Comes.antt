@@ -1,5 +1,5 @@
 -- What the code answers, beside what a call is over the host.
-use Rattle.std.specs.Prelude.{◌≡◌, ℕ, Option, Result, Ok, Err}
+use Rattle.std.specs.Prelude.{◌≡◌, Result, Ok, Err}
 use Rattle.heap_values.specs.declared.value.Value.{Value}
 use Rattle.js_host.specs.Seen.{Seen}
 use Rattle.run_trees.specs.RunTree.{RunTree, Walked, Ended, Stopped, walk}
@@ -7,7 +7,7 @@ use Rattle.pac_functions.specs.declared.call.PacAnswer.{PacAnswer}
 use Rattle.pac_functions.specs.declared.call.PacAnswer.TheVariants as answer
 use Rattle.pac_functions.specs.declared.call.Stop.{Stop}
 use Rattle.pac_functions.specs.declared.call.Stop.TheVariants as stop
-use Rattle.pac_functions.specs.Addresses.{PacEnd, Gives, AsksTooMany, AfterAddress}
+use Rattle.pac_functions.specs.Addresses.{PacEnd, Gives, AsksTooMany}
 
 -- a value, a name that the host lacks, or one name too many, each exactly where the call comes to it, with the host's
 -- record then; want of memory promises nothing
@@ -24,9 +24,10 @@ Comes walked (Err (stop.Missing name)) after = walked ≡ Stopped name after
 Comes walked (Err stop.TooMany) after = walked ≡ Ended AsksTooMany after
 Comes walked (Err stop.Memory) after = Unit {0}
 
--- The same of an address, whatever comes after it: with the address what comes after goes on, and else it doesn't come.
-abbrev pub Resolves : (AfterAddress → RunTree PacEnd) → Seen → Result (Option ℕ) Stop → Seen → Type 0
-Resolves ask before (Ok address) after = (next : AfterAddress) → walk (ask next) before ≡ walk (next address) after
-Resolves ask before (Err (stop.Missing name)) after = (next : AfterAddress) → walk (ask next) before ≡ Stopped name after
-Resolves ask before (Err stop.TooMany) after = (next : AfterAddress) → walk (ask next) before ≡ Ended AsksTooMany after
-Resolves ask before (Err stop.Memory) after = Unit {0}
+-- The same of an answer, an address or a text, whatever comes after it: with it what comes after goes on, and else it
+-- doesn't come.
+abbrev pub Resolves : {Found : Type 0} → ((Found → RunTree PacEnd) → RunTree PacEnd) → Seen → Result Found Stop → Seen → Type 0
+Resolves {Found} ask before (Ok found) after = (next : Found → RunTree PacEnd) → walk (ask next) before ≡ walk (next found) after
+Resolves {Found} ask before (Err (stop.Missing name)) after = (next : Found → RunTree PacEnd) → walk (ask next) before ≡ Stopped name after
+Resolves {Found} ask before (Err stop.TooMany) after = (next : Found → RunTree PacEnd) → walk (ask next) before ≡ Ended AsksTooMany after
+Resolves {Found} ask before (Err stop.Memory) after = Unit {0}

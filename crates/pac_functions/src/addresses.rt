@@ -7,6 +7,7 @@ ghost use Rattle.pac_functions.specs.Addresses.{
   is_address_in,
   is_nothing,
   named_then,
+  ipv4_in,
   text_then,
   resolved,
 };
@@ -44,27 +45,36 @@ fn text_address<H: Host>(alloc: Global, text: &Text, host: &mut H) -> Result<Opt
 {
     match quad(text) {
         Some(address) => Ok(Some(address)),
-        None => named_address(alloc, lookup_name(text), host),
+        None => Ok(ipv4(answer_on(alloc, lookup_name(text), host)?)),
     }
 }
 
-/// The address that the host has for a lookup name.
-fn named_address<H: Host>(
+/// The answer that the host has on a lookup name; a text that is none has no address.
+pub fn answer_on<H: Host>(
     alloc: Global,
     name: Option<LookupName>,
     host: &mut H,
-) -> Result<Option<u32>, Stop>
+) -> Result<Answer, Stop>
     ensures { Resolves (named_then name) (H.seen host.old) result (H.seen host.new) }
 {
     let Some(name) = name else {
-        return Ok(None);
+        return Ok(Answer::NoAddress);
     };
     match host.lookup(alloc, &name) {
-        Looked::Known(Answer::Address(address)) => Ok(Some(address)),
-        Looked::Known(Answer::NoAddress) => Ok(None),
+        Looked::Known(answer) => Ok(answer),
         Looked::Missing => Err(Stop::Missing(name)),
         Looked::TooMany => Err(Stop::TooMany),
         Looked::Memory => Err(Stop::Memory),
+    }
+}
+
+/// The IPv4 address of an answer; one of the other family counts as none.
+pub fn ipv4(answer: Answer) -> Option<u32>
+    ensures { result ≡ ipv4_in answer }
+{
+    match answer {
+        Answer::Address(address) => Some(address),
+        _ => None,
     }
 }
 

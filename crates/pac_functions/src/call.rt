@@ -4,6 +4,7 @@ ghost use Rattle.pac_functions.specs.Call.{pac_call};
 ghost use Rattle.pac_functions.specs.Comes.{Comes, Answers};
 
 use crate::addresses::{address_of, is_in_net, quad_value};
+use crate::families::{addresses_of, is_in_net_ex};
 use crate::ranges::{is_date, is_time, is_weekday};
 use crate::texts::{
     dns_domain_is, dns_domain_levels, is_plain_host_name, local_host_or_domain_is, sh_exp_match_is,
@@ -32,6 +33,9 @@ pub enum PacFunction {
     WeekdayRange,
     DateRange,
     TimeRange,
+    DnsResolveEx,
+    IsResolvableEx,
+    IsInNetEx,
 }
 
 /// What scripts are told of this machine.
@@ -127,5 +131,11 @@ fn called<H: Host>(
         PacFunction::WeekdayRange => Ok(Value::Bool(is_weekday(alloc, now, args)?)),
         PacFunction::DateRange => Ok(Value::Bool(is_date(alloc, now, args)?)),
         PacFunction::TimeRange => Ok(Value::Bool(is_time(alloc, now, args)?)),
+        PacFunction::DnsResolveEx => Ok(Value::Text(addresses_of(alloc, args, host)?)),
+        PacFunction::IsResolvableEx => {
+            let addresses = addresses_of(alloc, args, host)?;
+            Ok(Value::Bool(!addresses.is_empty()))
+        }
+        PacFunction::IsInNetEx => Ok(Value::Bool(is_in_net_ex(alloc, args)?)),
     }
 }

@@ -4,7 +4,7 @@ use Rattle.std.specs.Prelude.{IsTrue, nat_eq}
 use Rattle.std.specs.Cmp.Lexicographic.{pointwise}
 use Rattle.byteorder.specs.Endian.{big_number}
 use Rattle.byteorder.specs.Numbers.{big_from-bytes}
-use Rattle.pac_names.specs.Names.{is_lookup_name}
+use Rattle.pac_names.specs.Names.{Name, is_lookup_name}
 use Rattle.dns_name.proofs.SameLaws.{bytes_same}
 use Rattle.dns_message.specs.Header.{header_octets, query_header}
 use Rattle.dns_message.specs.Numbers.{number_at}
@@ -25,7 +25,7 @@ asked_is : (octets : List ℕ) (q : Question) → asked_by octets ≡ Some q →
 unfolding asked_by
 asked_is octets q e = checked_is octets (question_in octets) q e
 
-number_read : (octets name : List ℕ) (id : ℕ) → octets ≡ question_octets id name → number_at octets 0 ≡ id % 65536
+number_read : (octets : List ℕ) (name : Name) (id : ℕ) → octets ≡ question_octets id name → number_at octets 0 ≡ id % 65536
 unfolding question_octets
 number_read octets name id e = ap (big_number 2) e ∙ big_from-bytes 2 id (drop 2 (header_octets (query_header id) ++ asked_octets name))
 
@@ -38,7 +38,7 @@ asked_number octets q e =
     omega (arith, number, id)
 
 -- what has the octets of no question asks nothing
-pub not_asked : (octets : List ℕ) → ((id : ℕ) (name : List ℕ) → id < 2 ^ 16 → IsTrue (is_lookup_name name) → octets ≡ question_octets id name → ⊥) → asked_by octets ≡ None
+pub not_asked : (octets : List ℕ) → ((id : ℕ) (name : Name) → id < 2 ^ 16 → IsTrue (is_lookup_name name) → octets ≡ question_octets id name → ⊥) → asked_by octets ≡ None
 not_asked octets none = go (asked_by octets) refl
   where
     go : (r : Option Question) → asked_by octets ≡ r → r ≡ None
@@ -48,7 +48,7 @@ not_asked octets none = go (asked_by octets) refl
         absurd (none q.id q.name (asked_number octets q e) (asked_name_is octets q e) (is.1 ∙ ap octets_of is.0))
 
 -- what has the octets of a question asks it
-pub asked_as : (octets : List ℕ) (id : ℕ) (name : List ℕ) → id < 2 ^ 16 → IsTrue (is_lookup_name name) → octets ≡ question_octets id name → asked_by octets ≡ Some (record { id = id; name = name })
+pub asked_as : (octets : List ℕ) (id : ℕ) (name : Name) → id < 2 ^ 16 → IsTrue (is_lookup_name name) → octets ≡ question_octets id name → asked_by octets ≡ Some (record { id = id; name = name })
 asked_as octets id name small named e =
     let q : Question = record { id = id; name = name } in
     ap asked_by e ∙ asked_by-octets_of q (record { number = small; name = named })

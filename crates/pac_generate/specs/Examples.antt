@@ -3,7 +3,7 @@ use Rattle.std.specs.Prelude.{◌≡◌, codes, refl}
 use Rattle.std.specs.Fmt.{digits}
 use Rattle.pac_names.specs.declared.answer.Answer.TheVariants.{Address, NoAddress}
 use Rattle.pac_generate.specs.Numbers.{number_behind, site_number}
-use Rattle.pac_generate.specs.Names.{site_name, gate_name, site_answer, gate_answer, inner_address}
+use Rattle.pac_generate.specs.Names.{site_host, gate_host, site_answer, gate_answer, inner_address}
 use Rattle.pac_generate.specs.Generated.{site_url}
 use Rattle.pac_generate.specs.Summary.{summary_text}
 
@@ -40,11 +40,11 @@ third_answer = refl
 pub last_gate : gate_answer 9 ≡ Address 0x0a090001
 last_gate = refl
 
-pub gate : gate_name 9 ≡ codes "gw9.example"
+pub gate : gate_host 9 ≡ codes "gw9.example"
 unfolding digits
 gate = refl
 
-pub site : site_name 255 ≡ codes "site255.example"
+pub site : site_host 255 ≡ codes "site255.example"
 unfolding digits
 site = refl
 

@@ -2,7 +2,7 @@
 use Rattle.std.specs.Prelude.{ℕ, zero, suc, List, [], ◌∷◌, ◌++◌, codes}
 use Rattle.batch_text.specs.declared.batch.BatchLine.{BatchLine}
 use Rattle.batch_text.specs.declared.batch.BatchLine.TheVariants as line
-use Rattle.pac_generate.specs.Names.{site_name, site_map}
+use Rattle.pac_generate.specs.Names.{site_host, site_map}
 use Rattle.pac_generate.specs.declared.generating.TheConstants.{MOMENT}
 use Rattle.pac_generate.specs.declared.generating.Generated.{Generated}
 
@@ -21,11 +21,11 @@ script =
     (line_then (codes "}") [])))))
 
 abbrev pub site_url : ℕ → List ℕ
-site_url site = codes "http://" ++ site_name site ++ codes "/"
+site_url site = codes "http://" ++ site_host site ++ codes "/"
 
 -- a site's line: `get` and its URL
 abbrev pub site_line : ℕ → BatchLine
-site_line site = line.Get MOMENT (record { url = site_url site; host = site_name site })
+site_line site = line.Get MOMENT (record { url = site_url site; host = site_host site })
 
 -- one line for each site, in order
 abbrev pub site_lines : ℕ → List BatchLine

@@ -1,20 +1,29 @@
 -- The names that a generated script asks for, and what they are answered.
-use Rattle.std.specs.Prelude.{ℕ, zero, suc, ◌+◌, ◌*◌, ◌/◌, ◌%◌, ◌==◌, ◌++◌, codes, if◌then◌else◌}
+use Rattle.std.specs.Prelude.{ℕ, zero, suc, ◌+◌, ◌*◌, ◌/◌, ◌%◌, ◌==◌, List, ◌++◌, codes, if◌then◌else◌}
 use Rattle.std.specs.Fmt.{decimal}
 use Rattle.std.specs.FinMap as map
 use Rattle.pac_names.specs.declared.answer.Answer.{Answer}
 use Rattle.pac_names.specs.declared.answer.Answer.TheVariants.{Address, NoAddress}
-use Rattle.js_host.specs.Answers.{Name, AnswerMap}
+use Rattle.pac_names.specs.declared.kind.NameKind.TheVariants.{V4}
+use Rattle.pac_names.specs.Names.{Name}
+use Rattle.js_host.specs.Answers.{AnswerMap}
 use Rattle.pac_generate.specs.Numbers.{site_number}
 use Rattle.pac_generate.specs.declared.names.TheConstants.{GATES}
 
 -- the host that a URL names
-abbrev pub site_name : ℕ → Name
-site_name site = codes "site" ++ decimal site ++ codes ".example"
+abbrev pub site_host : ℕ → List ℕ
+site_host site = codes "site" ++ decimal site ++ codes ".example"
 
 -- the host of the proxies, one for each digit
+abbrev pub gate_host : ℕ → List ℕ
+gate_host digit = codes "gw" ++ decimal digit ++ codes ".example"
+
+-- the same as names, whose IPv4 addresses are asked
+abbrev pub site_name : ℕ → Name
+site_name site = record { kind = V4; text = site_host site }
+
 abbrev pub gate_name : ℕ → Name
-gate_name digit = codes "gw" ++ decimal digit ++ codes ".example"
+gate_name digit = record { kind = V4; text = gate_host digit }
 
 -- the address 10.a.b.1
 abbrev pub inner_address : ℕ → ℕ → Answer

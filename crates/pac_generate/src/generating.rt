@@ -2,7 +2,7 @@
 ghost use Rattle.std.specs.Prelude.{◌≡◌, ◌<◌, ◌≤◌, IfOk};
 ghost use Rattle.pac_generate.specs.Generated.{generated, script, site_line, site_lines};
 
-use crate::names::{answers, site_name};
+use crate::names::{answers, site_host};
 use answer_table::AnswerTable;
 use batch_text::{Batch, BatchLine, MOST_URLS, View};
 use std::alloc::Global;
@@ -60,7 +60,7 @@ fn site_lines(alloc: Global, sites: u32) -> Result<Batch, Memory>
 fn site_line(alloc: Global, site: u32) -> Result<BatchLine, Memory>
     ensures { IfOk result (λ line. line ≡ site_line site) }
 {
-    let host = site_name(alloc, site)?;
+    let host = site_host(alloc, site)?;
     let url = format!(in alloc; "http://{host}/")?;
     let view = View {
         url: Text::from_latin_1(alloc, url.as_bytes())?,

@@ -3,10 +3,12 @@ ghost use Rattle.std.specs.Prelude.{◌≡◌, ◌<◌, ◌≤◌, ◌^◌, IfOk
 ghost use Rattle.pac_generate.specs.declared.names.TheConstants.{GATES};
 ghost use Rattle.pac_generate.specs.Names.{
   gate_answer,
+  gate_host,
   gate_map,
   gate_name,
   inner_address,
   site_answer,
+  site_host,
   site_map,
   site_name,
 };
@@ -31,7 +33,7 @@ pub(crate) fn answers(alloc: Global, seed: u32, sites: u32) -> Result<AnswerTabl
     let mut number = seed;
     for site in 0..sites {
         number = next_number(number);
-        let name = site_key(alloc, site)?;
+        let name = site_name(alloc, site)?;
         table.insert(alloc, name, site_answer(upper_bits(number)))?;
     }
     Ok(table)
@@ -44,42 +46,42 @@ fn gate_answers(alloc: Global) -> Result<AnswerTable, Memory>
 {
     let mut table = AnswerTable::new(alloc);
     for digit in 0..GATES {
-        let name = gate_key(alloc, digit)?;
+        let name = gate_name(alloc, digit)?;
         table.insert(alloc, name, gate_answer(digit))?;
     }
     Ok(table)
 }
 
 /// The host of a site's URL.
-pub(crate) fn site_name(alloc: Global, site: u32) -> Result<String, AllocError>
-    ensures { IfOk result (λ name. string_bytes name ≡ site_name site) }
+pub(crate) fn site_host(alloc: Global, site: u32) -> Result<String, AllocError>
+    ensures { IfOk result (λ host. string_bytes host ≡ site_host site) }
 {
     format!(in alloc; "site{site}.example")
 }
 
-// The same as a name to look up.
-fn site_key(alloc: Global, site: u32) -> Result<LookupName, Memory>
+// The same as a name, whose IPv4 address is asked.
+fn site_name(alloc: Global, site: u32) -> Result<LookupName, Memory>
     requires { site < MOST_URLS }
     ensures { IfOk result (λ name. name ≡ site_name site) }
 {
-    let name = site_name(alloc, site)?;
-    Ok(LookupName::from_bytes(name.as_bytes()).unwrap())
+    let host = site_host(alloc, site)?;
+    Ok(LookupName::from_bytes(host.as_bytes()).unwrap())
 }
 
 // The host of the proxies for a digit.
-fn gate_name(alloc: Global, digit: u32) -> Result<String, AllocError>
-    ensures { IfOk result (λ name. string_bytes name ≡ gate_name digit) }
+fn gate_host(alloc: Global, digit: u32) -> Result<String, AllocError>
+    ensures { IfOk result (λ host. string_bytes host ≡ gate_host digit) }
 {
     format!(in alloc; "gw{digit}.example")
 }
 
-// The same as a name to look up.
-fn gate_key(alloc: Global, digit: u32) -> Result<LookupName, Memory>
+// The same as a name, whose IPv4 address is asked.
+fn gate_name(alloc: Global, digit: u32) -> Result<LookupName, Memory>
     requires { digit < GATES }
     ensures { IfOk result (λ name. name ≡ gate_name digit) }
 {
-    let name = gate_name(alloc, digit)?;
-    Ok(LookupName::from_bytes(name.as_bytes()).unwrap())
+    let host = gate_host(alloc, digit)?;
+    Ok(LookupName::from_bytes(host.as_bytes()).unwrap())
 }
 
 // What a site's name is answered.

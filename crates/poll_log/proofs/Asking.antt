@@ -1,28 +1,68 @@
 -- The octets of a question are read as the question.
-use Rattle.std.proofs.Common.{◌≡◌, ℕ, ◌-◌, Bool, true, false, cond, ◌&&◌, List, [], ◌∷◌, ◌++◌, length, slice_range, Option, Some, None, refl, sym, ◌∙◌, ap}
+use Rattle.std.proofs.Common.{◌≡◌, ℕ, ◌-◌, ◌^◌, ◌<◌, Bool, true, false, cond, ◌&&◌, List, [], ◌∷◌, ◌++◌, length, Option, Some, None, refl, sym, ◌∙◌, ap, arith, lit<}
 use Rattle.std.specs.Prelude.{IsTrue, nat_eq}
 use Rattle.std.specs.List.{All, AllByRecursion, flat_map, cons_option}
 use Rattle.std.specs.Cmp.Lexicographic.{pointwise}
+use Rattle.std.proofs.lemmas.List.{append_assoc, drop_at, length-append}
 use Rattle.std.proofs.lemmas.List.Elements.{recursion_from_All}
+use Rattle.byteorder.specs.Endian.{big_number}
+use Rattle.byteorder.specs.Numbers.{big_number-reads_back}
 use Rattle.pac_names.specs.Labels.{labels_of}
-use Rattle.pac_names.specs.Names.{is_lookup_name}
+use Rattle.pac_names.specs.declared.kind.NameKind.{NameKind}
+use Rattle.pac_names.specs.declared.kind.NameKind.TheVariants.{V4, V6}
+use Rattle.pac_names.specs.Names.{Name, is_lookup_name}
 use Rattle.dns_name.proofs.SameLaws.{same_bytes}
-use Rattle.dns_name.specs.Writing.{wire_label}
-use Rattle.dns_message.specs.Question.{question_octets}
+use Rattle.dns_name.specs.Writing.{wire_label, wire_name}
+use Rattle.dns_message.specs.Header.{header_octets, query_header}
+use Rattle.dns_message.specs.Numbers.{number_at, number_octets}
+use Rattle.dns_message.specs.Question.{class_in, question_octets, type_of}
 use Rattle.dns_message.proofs.QueryLaws.{number_of, question_of, plain_is_name, plain_is_some, plain_labels}
 use Rattle.poll_log.specs.declared.question.Question.{Question}
 use Rattle.poll_log.specs.Turns.{Outgoing, Turns, Begin, Then}
-use Rattle.poll_log.specs.Questions.{IsQuestion, octets_of, outgoing_from, asked_by, asked_in, checked_question, firsts, has_name, new_among, onto_unless, question_in, dotted_labels}
+use Rattle.poll_log.specs.Questions.{IsQuestion, octets_of, outgoing_from, asked_by, asked_in, checked_question, firsts, has_name, new_among, onto_unless, question_in, dotted_labels, kind_asked, name_in}
 
-labels_dotted : (name octets : List ℕ) → flat_map wire_label (labels_of name) ≡ octets → dotted_labels octets ≡ name
-labels_dotted name [] e = absurd (plain_is_some name e)
-labels_dotted name (first ∷ rest) e = plain_is_name name rest first e
+labels_dotted : (text octets : List ℕ) → flat_map wire_label (labels_of text) ≡ octets → dotted_labels octets ≡ text
+labels_dotted text [] e = absurd (plain_is_some text e)
+labels_dotted text (first ∷ rest) e = plain_is_name text rest first e
 
-name_read : (octets name : List ℕ) (id : ℕ) → octets ≡ question_octets id name → dotted_labels (slice_range octets 12 (length octets - 5)) ≡ name
-name_read octets name id e = labels_dotted name _ (sym (plain_labels octets name (question_of octets name id e)))
+text_read : (octets : List ℕ) (name : Name) (id : ℕ) → octets ≡ question_octets id name → (name_in octets).text ≡ name.text
+text_read octets name id e = labels_dotted name.text _ (sym (plain_labels octets name (question_of octets name id e)))
 
-same_question : (q : Question) (id : ℕ) (name : List ℕ) → id ≡ q.id → name ≡ q.name → (record { id = id; name = name }) ≡ q
-same_question q id name e f = ap (λ (i : ℕ). let r : Question = record { id = i; name = name } in r) e ∙ ap (λ (n : List ℕ). let r : Question = record { id = q.id; name = n } in r) f
+-- the type of a question for a name of a kind is read as the kind
+kind_of_type : (kind : NameKind) → kind_asked (type_of kind) ≡ kind
+kind_of_type V4 = refl
+kind_of_type V6 = refl
+
+small_type : (kind : NameKind) → type_of kind < 2 ^ 16
+small_type V4 = lit< tt
+small_type V6 = lit< tt
+
+-- the type stands four octets before the end
+type_read : (front : List ℕ) (type : ℕ) → type < 2 ^ 16
+    → (octets : List ℕ) → octets ≡ front ++ (number_octets type ++ number_octets class_in) → number_at octets (length octets - 4) ≡ type
+type_read front type small octets e =
+    let place : length octets - 4 ≡ length front =
+    omega (arith, ap length e, length-append front (number_octets type ++ number_octets class_in)) in
+    ap (λ (at : ℕ). number_at octets at) place
+    ∙ ap (λ (l : List ℕ). number_at l (length front)) e
+    ∙ ap (big_number 2) (drop_at front (number_octets type ++ number_octets class_in) (length front) refl)
+    ∙ big_number-reads_back 2 type (number_octets class_in) small
+
+kind_read : (octets : List ℕ) (name : Name) (id : ℕ) → octets ≡ question_octets id name → (name_in octets).kind ≡ name.kind
+unfolding question_octets
+kind_read octets name id e =
+    let front : List ℕ = header_octets (query_header id) in
+    let type : List ℕ = number_octets (type_of name.kind) in
+    let parts : octets ≡ (front ++ wire_name name.text) ++ (type ++ number_octets class_in) =
+    e ∙ ap (λ (l : List ℕ). front ++ l) (append_assoc (wire_name name.text) type (number_octets class_in))
+    ∙ sym (append_assoc front (wire_name name.text) (type ++ number_octets class_in)) in
+    ap kind_asked (type_read (front ++ wire_name name.text) (type_of name.kind) (small_type name.kind) octets parts) ∙ kind_of_type name.kind
+
+name_read : (octets : List ℕ) (name : Name) (id : ℕ) → octets ≡ question_octets id name → name_in octets ≡ name
+name_read octets name id e = λ i. record { kind = kind_read octets name id e i; text = text_read octets name id e i }
+
+same_question : (q : Question) (id : ℕ) (name : Name) → id ≡ q.id → name ≡ q.name → (record { id = id; name = name }) ≡ q
+same_question q id name e f = ap (λ (i : ℕ). let r : Question = record { id = i; name = name } in r) e ∙ ap (λ (n : Name). let r : Question = record { id = q.id; name = n } in r) f
 
 pub question_read : (q : Question) → IsQuestion q → question_in (octets_of q) ≡ q
 question_read q p = same_question q _ _ (number_of (octets_of q) q.name q.id p.number refl) (name_read (octets_of q) q.name q.id refl)

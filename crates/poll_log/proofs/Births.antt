@@ -1,5 +1,6 @@
 -- Ages count from the turn of the first send.
-use Rattle.std.proofs.Common.{◌≡◌, ℕ, ◌+◌, Bool, true, false, cond, List, Some, refl, ◌∙◌, ap, arith}
+use Rattle.std.proofs.Common.{◌≡◌, ◌+◌, Bool, true, false, cond, List, Some, refl, ◌∙◌, ap, arith}
+use Rattle.pac_names.specs.Names.{Name}
 use Rattle.poll_log.specs.Turns.{Outgoing, Turns, Begin, Then, Event}
 use Rattle.poll_log.specs.Beats.{beats, beat_of}
 use Rattle.poll_log.specs.Questions.{was_sent, before_birth}
@@ -8,11 +9,11 @@ use Rattle.poll_log.specs.Laws.{AgeIsSinceBirth}
 use Rattle.poll_log.proofs.BeatLaws.{beats-begin, beats_more}
 use Rattle.poll_log.proofs.TurnLaws.{age-begin, age_next, age_unsent}
 
-born_then : (h : Turns) (e : Event) (sent : List Outgoing) (n : List ℕ) → before_birth (Then h e sent) n ≡ cond (was_sent h n) (before_birth h n) (Some h)
+born_then : (h : Turns) (e : Event) (sent : List Outgoing) (n : Name) → before_birth (Then h e sent) n ≡ cond (was_sent h n) (before_birth h n) (Some h)
 unfolding before_birth
 born_then h e sent n = refl
 
-born_begin : (sent : List Outgoing) (n : List ℕ) → beats_before_birth (Begin sent) n ≡ 0
+born_begin : (sent : List Outgoing) (n : Name) → beats_before_birth (Begin sent) n ≡ 0
 unfolding before_birth
 born_begin sent n = refl
 

@@ -5,12 +5,14 @@ use Rattle.std.proofs.lemmas.List.{map-append}
 use Rattle.std.proofs.lemmas.Bool.Decides.{nat_tests}
 use Rattle.std.proofs.Math.Nat.{mul-le-mul_left}
 use Rattle.pac_names.specs.declared.answer.Answer.{Answer}
+use Rattle.pac_names.specs.Comparing.{same_name}
+use Rattle.pac_names.specs.Names.{Name}
 use Rattle.poll_log.specs.declared.question.Question.{Question}
 use Rattle.poll_log.specs.declared.terms.TheConstants.{FLOOD}
 use Rattle.poll_log.specs.declared.terms.Terms.{Terms}
 use Rattle.poll_log.specs.Turns.{Outgoing, Turns, Begin, Then, Event}
 use Rattle.poll_log.specs.Beats.{beats, events, beat_of, is_beat}
-use Rattle.poll_log.specs.Questions.{firsts, was_sent, names_of, same_name}
+use Rattle.poll_log.specs.Questions.{firsts, was_sent, names_of}
 use Rattle.poll_log.specs.Sendings.{limit}
 use Rattle.poll_log.specs.Told.{Map, age, accepted, told, or_else, is_dead}
 use Rattle.poll_log.specs.Jobs.{Job, waits_unless, is_waiting, some_wait, told_to, runs_of, IsCut, SendsOwed, WaitsBefore, wanted}
@@ -24,12 +26,12 @@ pub extends_next : (t : Terms) (h : Turns) (e : Event) (sent : List Outgoing) �
 extends_next t h e sent n x k = told_stays t h e sent n x k
 
 -- what a job lacks is wanted
-pub wants : (jobs : List Job) (M : Map) (k : ℕ) (d : Job) (n : List ℕ) → k < length jobs → get_or jobs k d M ≡ Some n → has n (wanted jobs M) ≡ true
+pub wants : (jobs : List Job) (M : Map) (k : ℕ) (d : Job) (n : Name) → k < length jobs → get_or jobs k d M ≡ Some n → has n (wanted jobs M) ≡ true
 wants [] M k d n l e = absurd (omega arith)
 wants (j ∷ js) M zero d n l e = ap (λ r. has n (cons_option r (wanted js M))) e ∙ ap (λ b. b || has n (wanted js M)) (same_itself n)
 wants (j ∷ js) M (suc k) d n l e = go (j M) (wants js M k d n (omega arith) e)
   where
-    go : (r : Option (List ℕ)) → has n (wanted js M) ≡ true → has n (cons_option r (wanted js M)) ≡ true
+    go : (r : Option Name) → has n (wanted js M) ≡ true → has n (cons_option r (wanted js M)) ≡ true
     go None h = h
     go (Some m) h = ap (λ b. same_name m n || b) h ∙ or-true (same_name m n)
 
@@ -37,7 +39,7 @@ names-append : (xs ys : List Question) → names_of (xs ++ ys) ≡ names_of xs +
 names-append xs ys = map-append (λ (q : Question). q.name) xs ys
 
 -- each name that a job lacks was sent
-pub want_sent : (t : Terms) (jobs : List Job) (h : Turns) → SendsOwed t jobs h → (k : ℕ) (d : Job) (n : List ℕ) → k < length jobs → get_or jobs k d (told t h) ≡ Some n → was_sent h n ≡ true
+pub want_sent : (t : Terms) (jobs : List Job) (h : Turns) → SendsOwed t jobs h → (k : ℕ) (d : Job) (n : Name) → k < length jobs → get_or jobs k d (told t h) ≡ Some n → was_sent h n ≡ true
 want_sent t jobs (Begin sent) o k d n low e =
     sym (has-names n (firsts (Begin sent)))
     ∙ ap (has n) (ap names_of (firsts_of_begin t jobs sent o) ∙ o.asks)
@@ -48,14 +50,14 @@ want_sent t jobs (Then h e sent) o k d n low f =
     ∙ once-covers (names_of (firsts h)) (wanted jobs (told t (Then h e sent))) n (wants jobs (told t (Then h e sent)) k d n low f)
 
 -- sent, not told and not dead is below the limit
-pub young_if_alive : (t : Terms) (h : Turns) (n : List ℕ) → was_sent h n ≡ true → told t h n ≡ None → is_dead t h n ≡ false → age h n < limit t
+pub young_if_alive : (t : Terms) (h : Turns) (n : Name) → was_sent h n ≡ true → told t h n ≡ None → is_dead t h n ≡ false → age h n < limit t
 unfolding is_dead
 young_if_alive t h n s u d = below (nat_le (limit t) (age h n)) refl (sym (ap (λ b. (b && is_none (told t h n)) && nat_le (limit t) (age h n)) s ∙ ap (λ r. is_none r && nat_le (limit t) (age h n)) u) ∙ d)
   where
     below : (b : Bool) → nat_le (limit t) (age h n) ≡ b → nat_le (limit t) (age h n) ≡ false → age h n < limit t
     below b e f = grind (arith, nat_tests)
 
-pub alive_if_young : (t : Terms) (h : Turns) (n : List ℕ) → age h n < limit t → is_dead t h n ≡ false
+pub alive_if_young : (t : Terms) (h : Turns) (n : Name) → age h n < limit t → is_dead t h n ≡ false
 unfolding is_dead
 alive_if_young t h n y = off (was_sent h n && is_none (told t h n)) (nat_le (limit t) (age h n)) (grind (arith, nat_tests))
   where
@@ -64,7 +66,7 @@ alive_if_young t h n y = off (was_sent h n && is_none (told t h n)) (nat_le (lim
     off false y e = refl
 
 -- of the first names of the job so many as its depth are told, and each was waited for below the limit
-pub beats_bound : (most : ℕ) (t : Terms) (jobs : List Job) (h : Turns) → SendsOwed t jobs h → (k : ℕ) (d : Job) (law : IsRestartable most (get_or jobs k d)) (n : List ℕ) → k < length jobs → get_or jobs k d (told t h) ≡ Some n → is_dead t h n ≡ false → beats h ≤ limit t * law.depth (told t h) + age h n
+pub beats_bound : (most : ℕ) (t : Terms) (jobs : List Job) (h : Turns) → SendsOwed t jobs h → (k : ℕ) (d : Job) (law : IsRestartable most (get_or jobs k d)) (n : Name) → k < length jobs → get_or jobs k d (told t h) ≡ Some n → is_dead t h n ≡ false → beats h ≤ limit t * law.depth (told t h) + age h n
 beats_bound most t jobs (Begin sent) o k d law n low f a = let z = beats-begin sent in omega arith
 beats_bound most t jobs (Then h e sent) o k d law n low f a = by_first (job M) refl (λ m w b. beats_bound most t jobs h o.0 k d law m low w b)
   where
@@ -90,7 +92,7 @@ beats_bound most t jobs (Then h e sent) o k d law n low f a = by_first (job M) r
         one true i = omega arith
         one false i = omega arith
 
-    told_now : (m : List ℕ) (x : Answer) → job M ≡ Some m → N m ≡ Some x → (is_dead t h m ≡ false → beats h ≤ L * law.depth M + age h m) → beats now ≤ L * law.depth N + age now n
+    told_now : (m : Name) (x : Answer) → job M ≡ Some m → N m ≡ Some x → (is_dead t h m ≡ false → beats h ≤ L * law.depth M + age h m) → beats now ≤ L * law.depth N + age now n
     told_now m x w y ih =
         let untold : M m ≡ None = law.lacks M m w in
         let got : accepted t h e m ≡ Some x = sym (ap (λ r. or_else r (accepted t h e m)) untold) ∙ sym (told_next t h e sent m) ∙ y in
@@ -101,7 +103,7 @@ beats_bound most t jobs (Then h e sent) o k d law n low f a = by_first (job M) r
         let r = raised in
         omega arith
 
-    still : (m : List ℕ) → job M ≡ Some m → N m ≡ None → (is_dead t h m ≡ false → beats h ≤ L * law.depth M + age h m) → beats now ≤ L * law.depth N + age now n
+    still : (m : Name) → job M ≡ Some m → N m ≡ None → (is_dead t h m ≡ false → beats h ≤ L * law.depth M + age h m) → beats now ≤ L * law.depth N + age now n
     still m w y ih =
         let again : job N ≡ Some m = law.waits N M m (extends_next t h e sent) w y in
         let same : n ≡ m = (cc (f, again)) in
@@ -116,11 +118,11 @@ beats_bound most t jobs (Then h e sent) o k d law n low f a = by_first (job M) r
         let more : beats now ≡ beats h + beat_of h e = beats_more h e sent in
         omega arith
 
-    by_told : (m : List ℕ) → job M ≡ Some m → (is_dead t h m ≡ false → beats h ≤ L * law.depth M + age h m) → (r : Option Answer) → N m ≡ r → beats now ≤ L * law.depth N + age now n
+    by_told : (m : Name) → job M ≡ Some m → (is_dead t h m ≡ false → beats h ≤ L * law.depth M + age h m) → (r : Option Answer) → N m ≡ r → beats now ≤ L * law.depth N + age now n
     by_told m w ih None y = still m w y ih
     by_told m w ih (Some x) y = told_now m x w y ih
 
-    by_first : (r : Option (List ℕ)) → job M ≡ r → ((m : List ℕ) → job M ≡ Some m → is_dead t h m ≡ false → beats h ≤ L * law.depth M + age h m) → beats now ≤ L * law.depth N + age now n
+    by_first : (r : Option Name) → job M ≡ r → ((m : Name) → job M ≡ Some m → is_dead t h m ≡ false → beats h ≤ L * law.depth M + age h m) → beats now ≤ L * law.depth N + age now n
     by_first None w ih = none_some n (sym (law.done N M (extends_next t h e sent) w) ∙ f)
     by_first (Some m) w ih = by_told m w (ih m w) (N m) refl
 
@@ -133,7 +135,7 @@ any_at p (x ∷ xs) d e = go (p x) refl e (any_at p xs d)
     go true f e ih = (0, omega arith, f)
     go false f e ih = let r = ih e in (suc r.0, omega arith, r.2)
 
-waits_for : (dead : List ℕ → Bool) (r : Option (List ℕ)) → waits_unless dead r ≡ true → (n : List ℕ) × (r ≡ Some n) × (dead n ≡ false)
+waits_for : (dead : Name → Bool) (r : Option Name) → waits_unless dead r ≡ true → (n : Name) × (r ≡ Some n) × (dead n ≡ false)
 waits_for dead None e = true_false (sym e)
 waits_for dead (Some n) e = (n, refl, off (dead n) e)
   where
@@ -207,7 +209,7 @@ runs_bound most t (Then h e sent) job law = go (job (told t h)) refl (runs_bound
     grown : runs_of t h job ≤ law.depth M + 1 → runs_of t h job + 0 ≤ law.depth N + 1
     grown ih = let g = law.grows N M x in omega arith
 
-    by_told : (n : List ℕ) → job M ≡ Some n → runs_of t h job ≤ law.depth M + 1 → (r : Option Answer) → N n ≡ r → runs_of t h job + told_to (Some n) N ≤ law.depth N + 1
+    by_told : (n : Name) → job M ≡ Some n → runs_of t h job ≤ law.depth M + 1 → (r : Option Answer) → N n ≡ r → runs_of t h job + told_to (Some n) N ≤ law.depth N + 1
     by_told n w ih None y = subst (λ m. runs_of t h job + m ≤ law.depth N + 1) (sym (none_counts y)) (grown ih)
       where
         none_counts : N n ≡ None → told_to (Some n) N ≡ 0
@@ -217,6 +219,6 @@ runs_bound most t (Then h e sent) job law = go (job (told t h)) refl (runs_bound
         some_counts : N n ≡ Some a → told_to (Some n) N ≡ 1
         some_counts y = rw y refl
 
-    go : (r : Option (List ℕ)) → job M ≡ r → runs_of t h job ≤ law.depth M + 1 → runs_of t h job + told_to r N ≤ law.depth N + 1
+    go : (r : Option Name) → job M ≡ r → runs_of t h job ≤ law.depth M + 1 → runs_of t h job + told_to r N ≤ law.depth N + 1
     go None w ih = grown ih
     go (Some n) w ih = by_told n w ih (N n) refl

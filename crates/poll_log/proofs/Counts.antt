@@ -1,16 +1,18 @@
 -- How often a name stands in a list of questions.
-use Rattle.std.proofs.Common.{◌≡◌, ℕ, ◌+◌, Bool, true, false, cond, ◌||◌, ◌&&◌, List, [], ◌∷◌, ◌++◌, refl, sym, ◌∙◌, ap, subst, arith, append_assoc}
+use Rattle.std.proofs.Common.{◌≡◌, ◌+◌, Bool, true, false, cond, ◌||◌, ◌&&◌, List, [], ◌∷◌, ◌++◌, refl, sym, ◌∙◌, ap, subst, arith, append_assoc}
 use Rattle.std.specs.List.{filter}
+use Rattle.pac_names.specs.Comparing.{same_name}
+use Rattle.pac_names.specs.Names.{Name}
 use Rattle.poll_log.specs.declared.question.Question.{Question}
-use Rattle.poll_log.specs.Questions.{has_name, same_name, times}
+use Rattle.poll_log.specs.Questions.{has_name, times}
 use Rattle.poll_log.proofs.Names.{AllNew, AllSeen, true_false, same_itself, same_is, or-left, or-right, or-first, or-true, has_name-append}
 
-pub times-append : (xs ys : List Question) (n : List ℕ) → times (xs ++ ys) n ≡ times xs n + times ys n
+pub times-append : (xs ys : List Question) (n : Name) → times (xs ++ ys) n ≡ times xs n + times ys n
 times-append [] ys n = omega arith
 times-append (q ∷ xs) ys n = let ih = times-append xs ys n in omega arith
 
 -- a name that was seen isn't new
-pub new_not_seen : (pre F : List Question) (n : List ℕ) → AllNew pre F → has_name n pre ≡ true → has_name n F ≡ false
+pub new_not_seen : (pre F : List Question) (n : Name) → AllNew pre F → has_name n pre ≡ true → has_name n F ≡ false
 new_not_seen pre [] n h k = refl
 new_not_seen pre (q ∷ F) n h k = go (same_name q.name n) refl (new_not_seen (pre ++ q ∷ []) F n h.1 (has_name-append n pre (q ∷ []) ∙ or-first _ _ k))
   where
@@ -18,10 +20,10 @@ new_not_seen pre (q ∷ F) n h k = go (same_name q.name n) refl (new_not_seen (p
     go true e ih = true_false (sym k ∙ ap (λ m. has_name m pre) (sym (same_is _ _ e)) ∙ h.0)
     go false e ih = ih
 
-pub has_itself : (pre : List Question) (q : Question) (n : List ℕ) → same_name q.name n ≡ true → has_name n (pre ++ q ∷ []) ≡ true
+pub has_itself : (pre : List Question) (q : Question) (n : Name) → same_name q.name n ≡ true → has_name n (pre ++ q ∷ []) ≡ true
 has_itself pre q n e = has_name-append n pre (q ∷ []) ∙ ap (λ b. has_name n pre || (b || false)) e ∙ or-true (has_name n pre)
 
-pub times_none : (p : Question → Bool) (F : List Question) (n : List ℕ) → has_name n F ≡ false → times (filter p F) n ≡ 0
+pub times_none : (p : Question → Bool) (F : List Question) (n : Name) → has_name n F ≡ false → times (filter p F) n ≡ 0
 times_none p [] n h = refl
 times_none p (q ∷ F) n h = go (p q) (times_none p F n (or-right _ _ h))
   where
@@ -29,12 +31,12 @@ times_none p (q ∷ F) n h = go (p q) (times_none p F n (or-right _ _ h))
     go true ih = ap (λ b. cond b 1 0 + times (filter p F) n) (or-left (same_name q.name n) (has_name n F) h) ∙ ap (λ m. 0 + m) ih
     go false ih = ih
 
-pub unsent_times : (F : List Question) (n : List ℕ) → has_name n F ≡ false → times F n ≡ 0
+pub unsent_times : (F : List Question) (n : Name) → has_name n F ≡ false → times F n ≡ 0
 unsent_times [] n h = refl
 unsent_times (q ∷ F) n h = ap (λ b. cond b 1 0 + times F n) (or-left (same_name q.name n) (has_name n F) h) ∙ ap (λ m. 0 + m) (unsent_times F n (or-right _ _ h))
 
 -- of distinct names each stands once where it passes
-pub times_filter : (r : List ℕ → Bool) (pre F : List Question) (n : List ℕ) → AllNew pre F → times (filter (λ q. r q.name) F) n ≡ cond (has_name n F && r n) 1 0
+pub times_filter : (r : Name → Bool) (pre F : List Question) (n : Name) → AllNew pre F → times (filter (λ q. r q.name) F) n ≡ cond (has_name n F && r n) 1 0
 times_filter r pre [] n h = refl
 times_filter r pre (q ∷ F) n h = go (same_name q.name n) refl (r q.name) refl (times_filter r (pre ++ q ∷ []) F n h.1)
   where
@@ -51,7 +53,7 @@ times_filter r pre (q ∷ F) n h = go (same_name q.name n) refl (r q.name) refl 
     go false e true k ih = ap (λ b. cond b 1 0 + times (filter (λ (x : Question). r x.name) F) n) e ∙ (let z : 0 + times (filter (λ (x : Question). r x.name) F) n ≡ times (filter (λ (x : Question). r x.name) F) n = omega arith in z) ∙ ih
     go false e false k ih = ih
 
-pub times_new : (pre F : List Question) (n : List ℕ) → AllNew pre F → times F n ≡ cond (has_name n F) 1 0
+pub times_new : (pre F : List Question) (n : Name) → AllNew pre F → times F n ≡ cond (has_name n F) 1 0
 times_new pre [] n h = refl
 times_new pre (q ∷ F) n h = go (same_name q.name n) refl (times_new (pre ++ q ∷ []) F n h.1)
   where

@@ -5,6 +5,7 @@ use Rattle.std.specs.List.{All, cons_option, filter, filter_map}
 use Rattle.std.proofs.lemmas.List.{append-nil, map-append}
 use Rattle.std.proofs.lemmas.List.Elements.{All-append, All-filter, All-nil, All-same}
 use Rattle.std.proofs.lemmas.Bool.Decides.{nat_tests}
+use Rattle.pac_names.specs.Names.{Name}
 use Rattle.poll_log.specs.declared.question.Question.{Question}
 use Rattle.poll_log.specs.declared.sending.Sending.{Sending}
 use Rattle.poll_log.specs.declared.terms.Terms.{Terms}
@@ -22,9 +23,9 @@ use Rattle.poll_log.proofs.Counts.{times-append, times_new, times_filter, unsent
 use Rattle.poll_log.proofs.TurnLaws.{firsts-then, firsts-begin, questions-then, questions-begin, distinct, due_next, due_unsent, due_begin, falls_at, falls_due, falls_numbered, told_by_event}
 
 -- One turn: names were sent in earlier turns as often as D says.
-module _ (earlier before fresh : List Question) (new : AllNew before fresh) (D : List ℕ → ℕ) (counted : (n : List ℕ) → times earlier n ≡ cond (has_name n before) (D n) 0) (first : (n : List ℕ) → has_name n before ≡ false → D n ≡ 1) where
+module _ (earlier before fresh : List Question) (new : AllNew before fresh) (D : Name → ℕ) (counted : (n : Name) → times earlier n ≡ cond (has_name n before) (D n) 0) (first : (n : Name) → has_name n before ≡ false → D n ≡ 1) where
   -- the times that a name was sent, with the new questions counted in, before anything is sent again
-  pub times_fresh : (n : List ℕ) → times (earlier ++ fresh) n ≡ cond (has_name n (before ++ fresh)) (D n) 0
+  pub times_fresh : (n : Name) → times (earlier ++ fresh) n ≡ cond (has_name n (before ++ fresh)) (D n) 0
   times_fresh n = times-append earlier fresh n ∙ go (has_name n before) refl ∙ ap (λ b. cond b (D n) 0) (sym (has_name-append n before fresh))
     where
       go : (b : Bool) → has_name n before ≡ b → times earlier n + times fresh n ≡ cond (b || has_name n fresh) (D n) 0
@@ -38,9 +39,9 @@ module _ (earlier before fresh : List Question) (new : AllNew before fresh) (D :
           ap (λ m. m + times fresh n) old ∙ ap (λ m. 0 + m) one ∙ (let z : 0 + cond (has_name n fresh) 1 0 ≡ cond (has_name n fresh) 1 0 = omega arith in z) ∙ ap (λ d. cond (has_name n fresh) d 0) (sym (first n k))
 
 -- They are due as often as D and `falls` say.
-module _ (t : Terms) (earlier before fresh : List Question) (turns : Turns) (new : AllNew before fresh) (D : List ℕ → ℕ) (falls : List ℕ → Bool) (counted : (n : List ℕ) → times earlier n ≡ cond (has_name n before) (D n) 0) (first : (n : List ℕ) → has_name n before ≡ false → D n ≡ 1) (due : (n : List ℕ) → has_name n (before ++ fresh) ≡ true → due_sends t turns n ≡ D n + cond (falls n) 1 0) where
+module _ (t : Terms) (earlier before fresh : List Question) (turns : Turns) (new : AllNew before fresh) (D : Name → ℕ) (falls : Name → Bool) (counted : (n : Name) → times earlier n ≡ cond (has_name n before) (D n) 0) (first : (n : Name) → has_name n before ≡ false → D n ≡ 1) (due : (n : Name) → has_name n (before ++ fresh) ≡ true → due_sends t turns n ≡ D n + cond (falls n) 1 0) where
   -- sent fewer times than it is due is who falls due
-  repeats_are : (n : List ℕ) → has_name n (before ++ fresh) ≡ true → nat_lt (times (earlier ++ fresh) n) (due_sends t turns n) ≡ falls n
+  repeats_are : (n : Name) → has_name n (before ++ fresh) ≡ true → nat_lt (times (earlier ++ fresh) n) (due_sends t turns n) ≡ falls n
   repeats_are n k =
       let now : times (earlier ++ fresh) n ≡ D n = times_fresh earlier before fresh new D counted first n ∙ ap (λ b. cond b (D n) 0) k in
       let next : due_sends t turns n ≡ D n + cond (falls n) 1 0 = due n k in
@@ -67,7 +68,7 @@ module _ (t : Terms) (jobs : List Job) (earlier before : List Question) (turns :
   new_now = ap (new_among before) asked_now ∙ new_among-new before o.fresh o.again fresh_new (subst (AllSeen (before ++ o.fresh)) (sym o.repeats) (seen_filter _ [] (before ++ o.fresh)))
 
   -- with this turn's sends each name was sent as often as it is due
-  pub times_now : (D : List ℕ → ℕ) (falls : List ℕ → Bool) → ((n : List ℕ) → times earlier n ≡ cond (has_name n before) (D n) 0) → ((n : List ℕ) → has_name n before ≡ false → D n ≡ 1) → ((n : List ℕ) → has_name n (before ++ o.fresh) ≡ true → due_sends t turns n ≡ D n + cond (falls n) 1 0) → AllNew [] before → (n : List ℕ) → times (earlier ++ asked_in sent) n ≡ cond (has_name n (before ++ o.fresh)) (due_sends t turns n) 0
+  pub times_now : (D : Name → ℕ) (falls : Name → Bool) → ((n : Name) → times earlier n ≡ cond (has_name n before) (D n) 0) → ((n : Name) → has_name n before ≡ false → D n ≡ 1) → ((n : Name) → has_name n (before ++ o.fresh) ≡ true → due_sends t turns n ≡ D n + cond (falls n) 1 0) → AllNew [] before → (n : Name) → times (earlier ++ asked_in sent) n ≡ cond (has_name n (before ++ o.fresh)) (due_sends t turns n) 0
   times_now D falls counted first due once_each n =
       ap (λ l. times (earlier ++ l) n) asked_now
       ∙ ap (λ l. times l n) (sym (append_assoc earlier o.fresh o.again))
@@ -100,7 +101,7 @@ firsts_of_begin t jobs sent o = firsts-begin sent ∙ new_now t jobs [] [] (Begi
 
 module _ (t : Terms) (jobs : List Job) (w : 0 < t.wait) (r : 0 < t.tries) where
   -- the send count
-  pub sent_as_due : (h : Turns) → SendsOwed t jobs h → (n : List ℕ) → times (questions h) n ≡ cond (was_sent h n) (due_sends t h n) 0
+  pub sent_as_due : (h : Turns) → SendsOwed t jobs h → (n : Name) → times (questions h) n ≡ cond (was_sent h n) (due_sends t h n) 0
   sent_as_due (Begin sent) o n =
       ap (λ l. times l n) (questions-begin sent)
       ∙ times_now t jobs [] [] (Begin sent) sent o (All-nil IsQuestion) (λ m. 1) (λ m. false) (λ m. refl) (λ m k. refl) (λ m k. due_begin t w r sent m) tt n
@@ -156,7 +157,7 @@ module _ (t : Terms) (jobs : List Job) (w : 0 < t.wait) (r : 0 < t.tries) where
     asked_again : questions_of again ≡ filter (λ q. falls_at t h e q.name) both
     asked_again = ap questions_of falls ∙ falling h e both
 
-    abbrev D : List ℕ → ℕ
+    abbrev D : Name → ℕ
     D n = cond (has_name n both) (due_sends t h n) 0
 
     sent_again : outgoing_from (questions h ++ fresh) (questions_of again) ≡ map outgoing_of again

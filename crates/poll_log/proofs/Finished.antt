@@ -1,9 +1,10 @@
 -- Where all that was sent is told nothing is dead, so that jobs that don't wait are finished.
-use Rattle.std.proofs.Common.{◌≡◌, ℕ, Bool, true, false, ◌||◌, ◌&&◌, not, List, [], ◌∷◌, Option, Some, None, is_none, refl, sym}
+use Rattle.std.proofs.Common.{◌≡◌, Bool, true, false, ◌||◌, ◌&&◌, not, List, [], ◌∷◌, Option, Some, None, is_none, refl, sym}
 use Rattle.std.specs.Prelude.{IsSome}
 use Rattle.std.specs.List.{All, list_any}
 use Rattle.std.proofs.lemmas.List.Elements.{All-cons, All-nil}
 use Rattle.pac_names.specs.declared.answer.Answer.{Answer}
+use Rattle.pac_names.specs.Names.{Name}
 use Rattle.poll_log.specs.declared.terms.Terms.{Terms}
 use Rattle.poll_log.specs.Turns.{Turns}
 use Rattle.poll_log.specs.Questions.{was_sent}
@@ -30,13 +31,13 @@ none_is_some None e h = true_false (sym h)
 none_is_some (Some x) e h = true_false (sym e)
 
 module _ (t : Terms) (h : Turns) (all : IsAllTold t h) where
-  none_dead : (n : List ℕ) → is_dead t h n ≡ true → ⊥
+  none_dead : (n : Name) → is_dead t h n ≡ true → ⊥
   unfolding is_dead
   none_dead n e =
       let sent_untold = both (was_sent h n) (is_none (told t h n)) (is_overdue t h n) e in
       none_is_some (told t h n) sent_untold.1 (all n sent_untold.0)
 
-  finished : (r : Option (List ℕ)) → waits_unless (is_dead t h) r ≡ false → r ≡ None
+  finished : (r : Option Name) → waits_unless (is_dead t h) r ≡ false → r ≡ None
   finished None e = refl
   finished (Some n) e = absurd (none_dead n (dies (is_dead t h n) e))
 

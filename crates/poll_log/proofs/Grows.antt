@@ -3,6 +3,7 @@ use Rattle.std.proofs.Common.{◌≡◌, ℕ, ◌+◌, ◌≤◌, Bool, true, fa
 use Rattle.std.specs.Prelude.{is_some}
 use Rattle.std.proofs.lemmas.Bool.Decides.{nat_tests}
 use Rattle.pac_names.specs.declared.answer.Answer.{Answer}
+use Rattle.pac_names.specs.Names.{Name}
 use Rattle.pac_ports.specs.declared.link.Move.{Move}
 use Rattle.pac_ports.specs.declared.link.Move.TheVariants as move
 use Rattle.poll_log.specs.declared.terms.Terms.{Terms}
@@ -50,12 +51,12 @@ module _ (P : Turns → Type 0) (step : (h : Turns) (m : Move) → P h → P (wi
   longer ms more p = subst P (sym (turns_of-append ms more)) (along (turns_of ms) (flat_behind (unfinished_behind [] ms) more) p)
 
 -- more sends in the last turn change nothing that is told
-told_with_sent : (t : Terms) (h : Turns) (more : List Outgoing) (n : List ℕ) → told t (with_sent h more) n ≡ told t h n
+told_with_sent : (t : Terms) (h : Turns) (more : List Outgoing) (n : Name) → told t (with_sent h more) n ≡ told t h n
 unfolding told
 told_with_sent t (Begin sent) more n = refl
 told_with_sent t (Then h e sent) more n = refl
 
-told_step : (t : Terms) (n : List ℕ) (x : Answer) (h : Turns) (m : Move) → told t h n ≡ Some x → told t (with_move h m) n ≡ Some x
+told_step : (t : Terms) (n : Name) (x : Answer) (h : Turns) (m : Move) → told t h n ≡ Some x → told t (with_move h m) n ≡ Some x
 told_step t n x h (move.Sent to octets) k = told_with_sent t h (record { to = to; octets = octets } ∷ []) n ∙ k
 told_step t n x h (move.Given octets) k = told_stays t h (Given octets) [] n x k
 told_step t n x h move.Tick k = told_stays t h Tick [] n x k
@@ -75,7 +76,7 @@ told_was_sent t h n s = go (was_sent h n) refl
     go false k = true_false (sym (sym (ap is_some (told_unsent t h n k)) ∙ s))
 
 -- more sends leave who was sent, and his age
-sent_with_sent : (h : Turns) (more : List Outgoing) (n : List ℕ) → was_sent h n ≡ true → was_sent (with_sent h more) n ≡ true
+sent_with_sent : (h : Turns) (more : List Outgoing) (n : Name) → was_sent h n ≡ true → was_sent (with_sent h more) n ≡ true
 unfolding firsts
 sent_with_sent (Begin sent) more n k =
     ap (λ l. has_name n (new_among [] l)) (asked_in-append sent more)
@@ -93,18 +94,18 @@ sent_with_sent (Then h e sent) more n k =
     go false true d e = refl
     go false false d e = true_false (sym e)
 
-age_with_sent : (h : Turns) (more : List Outgoing) (n : List ℕ) → was_sent h n ≡ true → age (with_sent h more) n ≡ age h n
+age_with_sent : (h : Turns) (more : List Outgoing) (n : Name) → was_sent h n ≡ true → age (with_sent h more) n ≡ age h n
 unfolding age
 age_with_sent (Begin sent) more n k = refl
 age_with_sent (Then h e sent) more n k = ap (λ b. cond b (age h n + beat_of h e) 0) (sent_with_sent (Then h e sent) more n k ∙ sym k)
 
 -- the parts of a dead name
-pub record Died (t : Terms) (h : Turns) (n : List ℕ) : Type 0 where
+pub record Died (t : Terms) (h : Turns) (n : Name) : Type 0 where
   pub sent : was_sent h n ≡ true
   pub untold : told t h n ≡ None
   pub old : limit t ≤ age h n
 
-died : (t : Terms) (h : Turns) (n : List ℕ) → is_dead t h n ≡ true → Died t h n
+died : (t : Terms) (h : Turns) (n : Name) → is_dead t h n ≡ true → Died t h n
 unfolding is_dead
 died t h n k = go (was_sent h n) refl (told t h n) refl (nat_le (limit t) (age h n)) refl k
   where
@@ -114,7 +115,7 @@ died t h n k = go (was_sent h n) refl (told t h n) refl (nat_le (limit t) (age h
     go true s (Some x) u c o e = true_false (sym e)
     go false s r u c o e = true_false (sym e)
 
-dead_by : (t : Terms) (h : Turns) (n : List ℕ) → Died t h n → is_dead t h n ≡ true
+dead_by : (t : Terms) (h : Turns) (n : Name) → Died t h n → is_dead t h n ≡ true
 unfolding is_dead
 dead_by t h n d =
     ap (λ b. (b && is_none (told t h n)) && nat_le (limit t) (age h n)) d.sent
@@ -124,13 +125,13 @@ dead_by t h n d =
     old : limit t ≤ age h n → nat_le (limit t) (age h n) ≡ true
     old o = grind (arith, nat_tests)
 
-overdue_by : (t : Terms) (h : Turns) (n : List ℕ) → Died t h n → is_overdue t h n ≡ true
+overdue_by : (t : Terms) (h : Turns) (n : Name) → Died t h n → is_overdue t h n ≡ true
 overdue_by t h n d = old d.old
   where
     old : limit t ≤ age h n → nat_le (limit t) (age h n) ≡ true
     old o = grind (arith, nat_tests)
 
-died_then : (t : Terms) (n : List ℕ) (h : Turns) (e : Event) → Died t h n → Died t (Then h e []) n
+died_then : (t : Terms) (n : Name) (h : Turns) (e : Event) → Died t h n → Died t (Then h e []) n
 died_then t n h e d =
     let s = sent_before h e [] n d.sent in
     let a : age (Then h e []) n ≡ age h n + beat_of h e = age_next h e [] n s in
@@ -141,7 +142,7 @@ died_then t n h e d =
       old = omega arith;
     }
 
-dead_step : (t : Terms) (n : List ℕ) (h : Turns) (m : Move) → Died t h n → Died t (with_move h m) n
+dead_step : (t : Terms) (n : Name) (h : Turns) (m : Move) → Died t h n → Died t (with_move h m) n
 dead_step t n h (move.Sent to octets) d =
     let more : List Outgoing = record { to = to; octets = octets } ∷ [] in
     let a : age (with_sent h more) n ≡ age h n = age_with_sent h more n d.sent in

@@ -1,12 +1,13 @@
 -- Names in lists of questions.
-use Rattle.std.proofs.Common.{◌≡◌, ℕ, Bool, true, false, ◌||◌, ◌&&◌, List, [], ◌∷◌, ◌++◌, Some, None, refl, sym, ◌∙◌, ap, subst, append_assoc}
+use Rattle.std.proofs.Common.{◌≡◌, Bool, true, false, ◌||◌, ◌&&◌, List, [], ◌∷◌, ◌++◌, Some, None, refl, sym, ◌∙◌, ap, subst, append_assoc}
 use Rattle.std.specs.Prelude.{is_some}
 use Rattle.std.specs.List.{list_any}
 use Rattle.std.proofs.lemmas.Bool.{false≢true}
 use Rattle.std.proofs.lemmas.List.{append-nil, map-append}
-use Rattle.dns_name.proofs.SameLaws.{same_bytes, bytes_same}
+use Rattle.pac_names.specs.Comparing.{same_name, one_name}
+use Rattle.pac_names.specs.Names.{Name}
 use Rattle.poll_log.specs.declared.question.Question.{Question}
-use Rattle.poll_log.specs.Questions.{same_name, has_name, names_of, new_among, onto_unless}
+use Rattle.poll_log.specs.Questions.{has_name, names_of, new_among, onto_unless}
 use Rattle.poll_log.specs.Jobs.{once, onto_new}
 
 pub true_false : {A : Type 0} → true ≡ false → A
@@ -15,11 +16,11 @@ true_false e = absurd (false≢true (sym e))
 pub none_some : {A B : Type 0} (x : B) → None ≡ Some x → A
 none_some x e = absurd (false≢true (ap is_some e))
 
-pub same_itself : (n : List ℕ) → same_name n n ≡ true
-same_itself n = same_bytes n n refl
+pub same_itself : (n : Name) → same_name n n ≡ true
+same_itself n = (one_name n n).1 refl
 
-pub same_is : (m n : List ℕ) → same_name m n ≡ true → m ≡ n
-same_is m n e = bytes_same m n e
+pub same_is : (m n : Name) → same_name m n ≡ true → m ≡ n
+same_is m n e = (one_name m n).0 e
 
 pub or-assoc : (a b c : Bool) → ((a || b) || c) ≡ (a || (b || c))
 or-assoc true b c = refl
@@ -53,19 +54,19 @@ pub and-true : (x : Bool) → (x && true) ≡ x
 and-true true = refl
 and-true false = refl
 
-pub has_name-append : (n : List ℕ) (xs ys : List Question) → has_name n (xs ++ ys) ≡ (has_name n xs || has_name n ys)
+pub has_name-append : (n : Name) (xs ys : List Question) → has_name n (xs ++ ys) ≡ (has_name n xs || has_name n ys)
 has_name-append n [] ys = refl
 has_name-append n (x ∷ xs) ys = ap (λ b. same_name x.name n || b) (has_name-append n xs ys) ∙ sym (or-assoc (same_name x.name n) (has_name n xs) (has_name n ys))
 
 -- the same of names alone
-abbrev pub has : List ℕ → List (List ℕ) → Bool
+abbrev pub has : Name → List Name → Bool
 has n ns = list_any (λ m. same_name m n) ns
 
-pub has-names : (n : List ℕ) (qs : List Question) → has n (names_of qs) ≡ has_name n qs
+pub has-names : (n : Name) (qs : List Question) → has n (names_of qs) ≡ has_name n qs
 has-names n [] = refl
 has-names n (q ∷ qs) = ap (λ b. same_name q.name n || b) (has-names n qs)
 
-pub has-append : (n : List ℕ) (xs ys : List (List ℕ)) → has n (xs ++ ys) ≡ (has n xs || has n ys)
+pub has-append : (n : Name) (xs ys : List Name) → has n (xs ++ ys) ≡ (has n xs || has n ys)
 has-append n [] ys = refl
 has-append n (x ∷ xs) ys = ap (λ b. same_name x n || b) (has-append n xs ys) ∙ sym (or-assoc (same_name x n) (has n xs) (has n ys))
 
@@ -121,16 +122,16 @@ AllNew-append seen (x ∷ xs) ys h k = (h.0, AllNew-append (seen ++ x ∷ []) xs
 pub cons_parts : {A : Type 0} (x y : A) (xs ys : List A) → x ∷ xs ≡ y ∷ ys → (x ≡ y) × (xs ≡ ys)
 cons_parts x y xs ys e = (cc, cc)
 
-pub once-cons : (seen : List (List ℕ)) (n : List ℕ) (ns : List (List ℕ)) → once seen (n ∷ ns) ≡ onto_new (has n seen) n (once seen ns) (once (seen ++ n ∷ []) ns)
+pub once-cons : (seen : List Name) (n : Name) (ns : List Name) → once seen (n ∷ ns) ≡ onto_new (has n seen) n (once seen ns) (once (seen ++ n ∷ []) ns)
 unfolding once
 once-cons seen n ns = refl
 
-pub once-none : (seen : List (List ℕ)) → once seen [] ≡ []
+pub once-none : (seen : List Name) → once seen [] ≡ []
 unfolding once
 once-none seen = refl
 
 -- names taken once are new
-once_step : (seen : List Question) (n : List ℕ) (ns : List (List ℕ)) → ((s r : List Question) → names_of r ≡ once (names_of s) ns → AllNew s r) → (b : Bool) → has n (names_of seen) ≡ b → (qs : List Question) → names_of qs ≡ onto_new b n (once (names_of seen) ns) (once (names_of seen ++ n ∷ []) ns) → AllNew seen qs
+once_step : (seen : List Question) (n : Name) (ns : List Name) → ((s r : List Question) → names_of r ≡ once (names_of s) ns → AllNew s r) → (b : Bool) → has n (names_of seen) ≡ b → (qs : List Question) → names_of qs ≡ onto_new b n (once (names_of seen) ns) (once (names_of seen ++ n ∷ []) ns) → AllNew seen qs
 once_step seen n ns rec true h qs e = rec seen qs e
 once_step seen n ns rec false h [] e = tt
 once_step seen n ns rec false h (q ∷ qs) e =
@@ -139,14 +140,14 @@ once_step seen n ns rec false h (q ∷ qs) e =
       rec (seen ++ q ∷ []) qs (p.1 ∙ ap (λ m. once (names_of seen ++ m ∷ []) ns) (sym p.0) ∙ ap (λ l. once l ns) (sym (map-append (λ (x : Question). x.name) seen (q ∷ [])))),
     )
 
-pub new_from-once : (seen qs : List Question) (ns : List (List ℕ)) → names_of qs ≡ once (names_of seen) ns → AllNew seen qs
+pub new_from-once : (seen qs : List Question) (ns : List Name) → names_of qs ≡ once (names_of seen) ns → AllNew seen qs
 unfolding once
 new_from-once seen [] [] e = tt
 new_from-once seen (q ∷ qs) [] e = cc
 new_from-once seen qs (n ∷ ns) e = once_step seen n ns (λ s r k. new_from-once s r ns k) (has n (names_of seen)) refl qs e
 
 -- each name was seen, or is taken
-once_covers_step : (seen : List (List ℕ)) (n : List ℕ) (ns : List (List ℕ)) (m : List ℕ) → ((s : List (List ℕ)) → has m ns ≡ true → has m (s ++ once s ns) ≡ true) → (b : Bool) → has n seen ≡ b → (c : Bool) → same_name n m ≡ c → (c || has m ns) ≡ true → has m (seen ++ onto_new b n (once seen ns) (once (seen ++ n ∷ []) ns)) ≡ true
+once_covers_step : (seen : List Name) (n : Name) (ns : List Name) (m : Name) → ((s : List Name) → has m ns ≡ true → has m (s ++ once s ns) ≡ true) → (b : Bool) → has n seen ≡ b → (c : Bool) → same_name n m ≡ c → (c || has m ns) ≡ true → has m (seen ++ onto_new b n (once seen ns) (once (seen ++ n ∷ []) ns)) ≡ true
 once_covers_step seen n ns m rec true h true k u =
     has-append m seen (once seen ns) ∙ ap (λ b. b || has m (once seen ns)) (ap (λ x. has x seen) (sym (same_is n m k)) ∙ h)
 once_covers_step seen n ns m rec true h false k u = rec seen u
@@ -155,24 +156,24 @@ once_covers_step seen n ns m rec false h true k u =
 once_covers_step seen n ns m rec false h false k u =
     ap (has m) (sym (append_assoc seen (n ∷ []) (once (seen ++ n ∷ []) ns))) ∙ rec (seen ++ n ∷ []) u
 
-pub once-covers : (seen ns : List (List ℕ)) (m : List ℕ) → has m ns ≡ true → has m (seen ++ once seen ns) ≡ true
+pub once-covers : (seen ns : List Name) (m : Name) → has m ns ≡ true → has m (seen ++ once seen ns) ≡ true
 unfolding once
 once-covers seen [] m h = true_false (sym h)
 once-covers seen (n ∷ ns) m h = once_covers_step seen n ns m (λ s k. once-covers s ns m k) (has n seen) refl (same_name n m) refl h
 
-once_append_step : (seen : List (List ℕ)) (n : List ℕ) (xs ys : List (List ℕ)) → ((s : List (List ℕ)) → once s (xs ++ ys) ≡ once s xs ++ once (s ++ once s xs) ys) → (b : Bool) → has n seen ≡ b → onto_new b n (once seen (xs ++ ys)) (once (seen ++ n ∷ []) (xs ++ ys)) ≡ onto_new b n (once seen xs) (once (seen ++ n ∷ []) xs) ++ once (seen ++ onto_new b n (once seen xs) (once (seen ++ n ∷ []) xs)) ys
+once_append_step : (seen : List Name) (n : Name) (xs ys : List Name) → ((s : List Name) → once s (xs ++ ys) ≡ once s xs ++ once (s ++ once s xs) ys) → (b : Bool) → has n seen ≡ b → onto_new b n (once seen (xs ++ ys)) (once (seen ++ n ∷ []) (xs ++ ys)) ≡ onto_new b n (once seen xs) (once (seen ++ n ∷ []) xs) ++ once (seen ++ onto_new b n (once seen xs) (once (seen ++ n ∷ []) xs)) ys
 once_append_step seen n xs ys rec true h = rec seen
 once_append_step seen n xs ys rec false h =
     ap (λ l. n ∷ l) (rec (seen ++ n ∷ []) ∙ ap (λ l. once (seen ++ n ∷ []) xs ++ once l ys) (append_assoc seen (n ∷ []) (once (seen ++ n ∷ []) xs)))
 
-pub once-append : (seen xs ys : List (List ℕ)) → once seen (xs ++ ys) ≡ once seen xs ++ once (seen ++ once seen xs) ys
+pub once-append : (seen xs ys : List Name) → once seen (xs ++ ys) ≡ once seen xs ++ once (seen ++ once seen xs) ys
 unfolding once
 once-append seen [] ys = ap (λ l. once l ys) (sym (append-nil seen))
 once-append seen (n ∷ xs) ys = once_append_step seen n xs ys (λ s. once-append s xs ys) (has n seen) refl
 
 -- a name that was seen leaves nothing
-pub once-seen : (seen : List (List ℕ)) (n : List ℕ) → has n seen ≡ true → once seen (n ∷ []) ≡ []
+pub once-seen : (seen : List Name) (n : Name) → has n seen ≡ true → once seen (n ∷ []) ≡ []
 once-seen seen n h = once-cons seen n [] ∙ ap (λ b. onto_new b n (once seen []) (once (seen ++ n ∷ []) [])) h ∙ once-none seen
 
-pub once-new : (seen : List (List ℕ)) (n : List ℕ) → has n seen ≡ false → once seen (n ∷ []) ≡ n ∷ []
+pub once-new : (seen : List Name) (n : Name) → has n seen ≡ false → once seen (n ∷ []) ≡ n ∷ []
 once-new seen n h = once-cons seen n [] ∙ ap (λ b. onto_new b n (once seen []) (once (seen ++ n ∷ []) [])) h ∙ ap (λ l. n ∷ l) (once-none (seen ++ n ∷ []))

@@ -1,6 +1,7 @@
 -- A run that asks in order is restartable.
 use Rattle.std.proofs.Common.{◌≡◌, ℕ, ◌+◌, ◌≤◌, List, [], ◌∷◌, ◌++◌, length, Option, Some, None, refl, sym, ◌∙◌, ap, arith}
 use Rattle.pac_names.specs.declared.answer.Answer.{Answer}
+use Rattle.pac_names.specs.Names.{Name}
 use Rattle.poll_log.specs.Told.{Map}
 use Rattle.poll_log.specs.Laws.{Extends, AsksInOrder, IsRestartableBy, RunsAreRestartable, first_lacking, lacking_or, up_to_lacking, only_behind}
 use Rattle.poll_log.proofs.Names.{none_some}
@@ -10,11 +11,11 @@ abbrev pub held_or : Option Answer → ℕ → ℕ
 held_or None rest = 0
 held_or (Some answer) rest = rest + 1
 
-abbrev pub held_before : List (List ℕ) → Map → ℕ
+abbrev pub held_before : List Name → Map → ℕ
 held_before [] M = 0
 held_before (n ∷ ns) M = held_or (M n) (held_before ns M)
 
-lacks_it : (ns : List (List ℕ)) (M : Map) (n : List ℕ) → first_lacking ns M ≡ Some n → M n ≡ None
+lacks_it : (ns : List Name) (M : Map) (n : Name) → first_lacking ns M ≡ Some n → M n ≡ None
 lacks_it [] M n e = none_some n e
 lacks_it (m ∷ ns) M n e = go (M m) refl e (lacks_it ns M n)
   where
@@ -23,7 +24,7 @@ lacks_it (m ∷ ns) M n e = go (M m) refl e (lacks_it ns M n)
     go (Some x) h e ih = ih e
 
 -- the names before it are held, by the larger map too
-waits_it : (ns rest : List (List ℕ)) (N M : Map) (n : List ℕ) → Extends N M → first_lacking ns M ≡ Some n → N n ≡ None → first_lacking (up_to_lacking ns M ++ rest) N ≡ Some n
+waits_it : (ns rest : List Name) (N M : Map) (n : Name) → Extends N M → first_lacking ns M ≡ Some n → N n ≡ None → first_lacking (up_to_lacking ns M ++ rest) N ≡ Some n
 waits_it [] rest N M n x e u = none_some n e
 waits_it (m ∷ ns) rest N M n x e u = go (M m) refl e (λ k. waits_it ns rest N M n x k u)
   where
@@ -33,7 +34,7 @@ waits_it (m ∷ ns) rest N M n x e u = go (M m) refl e (λ k. waits_it ns rest N
         ap (λ s. lacking_or m s (first_lacking rest N)) (ap N same ∙ u) ∙ ap Some same
     go (Some y) h e ih = ap (λ s. lacking_or m s (first_lacking (up_to_lacking ns M ++ rest) N)) (x m y h) ∙ ih e
 
-done_it : (ns : List (List ℕ)) (N M : Map) → Extends N M → first_lacking ns M ≡ None → first_lacking ns N ≡ None
+done_it : (ns : List Name) (N M : Map) → Extends N M → first_lacking ns M ≡ None → first_lacking ns N ≡ None
 done_it [] N M x e = refl
 done_it (m ∷ ns) N M x e = go (M m) refl e (done_it ns N M x)
   where
@@ -42,7 +43,7 @@ done_it (m ∷ ns) N M x e = go (M m) refl e (done_it ns N M x)
     go (Some y) h e ih = ap (λ s. lacking_or m s (first_lacking ns N)) (x m y h) ∙ ih e
 
 -- without a missing name all are held
-all_held : (ns : List (List ℕ)) (N M : Map) → Extends N M → first_lacking ns M ≡ None → (held_before ns M ≡ length ns) × (held_before ns N ≡ length ns)
+all_held : (ns : List Name) (N M : Map) → Extends N M → first_lacking ns M ≡ None → (held_before ns M ≡ length ns) × (held_before ns N ≡ length ns)
 all_held [] N M x e = (refl, refl)
 all_held (m ∷ ns) N M x e = go (M m) refl e (all_held ns N M x)
   where
@@ -56,7 +57,7 @@ all_held (m ∷ ns) N M x e = go (M m) refl e (all_held ns N M x)
         )
 
 -- up to the missing name as many are held by the larger map, and one more where it holds that name
-held_more : (ns rest : List (List ℕ)) (N M : Map) (n : List ℕ) → Extends N M → first_lacking ns M ≡ Some n → (held_before ns M ≤ held_before (up_to_lacking ns M ++ rest) N) × ((y : Answer) → N n ≡ Some y → held_before ns M + 1 ≤ held_before (up_to_lacking ns M ++ rest) N)
+held_more : (ns rest : List Name) (N M : Map) (n : Name) → Extends N M → first_lacking ns M ≡ Some n → (held_before ns M ≤ held_before (up_to_lacking ns M ++ rest) N) × ((y : Answer) → N n ≡ Some y → held_before ns M + 1 ≤ held_before (up_to_lacking ns M ++ rest) N)
 held_more [] rest N M n x e = none_some n e
 held_more (m ∷ ns) rest N M n x e = go (M m) refl e (held_more ns rest N M n x)
   where
@@ -74,7 +75,7 @@ held_more (m ∷ ns) rest N M n x e = go (M m) refl e (held_more ns rest N M n x
           λ z k. let second : held_before ns M + 1 ≤ held_before (up_to_lacking ns M ++ rest) N = ih.1 z k in omega arith,
         )
 
-held_within : (ns : List (List ℕ)) (M : Map) → held_before ns M ≤ length ns
+held_within : (ns : List Name) (M : Map) → held_before ns M ≤ length ns
 held_within [] M = omega arith
 held_within (m ∷ ns) M = go (M m) (held_within ns M)
   where
@@ -82,7 +83,7 @@ held_within (m ∷ ns) M = go (M m) (held_within ns M)
     go None h = omega arith
     go (Some x) h = omega arith
 
-held_below : (ns : List (List ℕ)) (M : Map) (n : List ℕ) → first_lacking ns M ≡ Some n → held_before ns M + 1 ≤ length ns
+held_below : (ns : List Name) (M : Map) (n : Name) → first_lacking ns M ≡ Some n → held_before ns M + 1 ≤ length ns
 held_below [] M n e = none_some n e
 held_below (m ∷ ns) M n e = go (M m) e (held_below ns M n)
   where
@@ -90,8 +91,8 @@ held_below (m ∷ ns) M n e = go (M m) e (held_below ns M n)
     go None e ih = omega arith
     go (Some x) e ih = let k = ih e in omega arith
 
-module _ (most : ℕ) (asked : Map → List (List ℕ)) (law : AsksInOrder most asked) where
-  grown : (N M : Map) → Extends N M → (r : Option (List ℕ)) → first_lacking (asked M) M ≡ r → held_before (asked M) M ≤ held_before (asked N) N
+module _ (most : ℕ) (asked : Map → List Name) (law : AsksInOrder most asked) where
+  grown : (N M : Map) → Extends N M → (r : Option Name) → first_lacking (asked M) M ≡ r → held_before (asked M) M ≤ held_before (asked N) N
   grown N M x None e =
       let held = all_held (asked M) N M x e in
       let same : held_before (asked N) N ≡ held_before (asked M) N = ap (λ l. held_before l N) (law.done N M x e) in

@@ -2,10 +2,12 @@
 use Rattle.std.proofs.Common.{◌≡◌, ℕ, zero, suc, length, take, ◌+◌, true, false, cond, List, [], ◌∷◌, ◌++◌, map, Option, Some, None, refl, sym, ◌∙◌, ap, subst, arith, append_assoc}
 use Rattle.std.specs.List.{cons_option, filter_map}
 use Rattle.std.proofs.lemmas.List.{append-nil}
+use Rattle.pac_names.specs.Comparing.{same_name}
+use Rattle.pac_names.specs.Names.{Name}
 use Rattle.poll_log.specs.declared.question.Question.{Question}
 use Rattle.poll_log.specs.declared.sending.Sending.{Sending}
 use Rattle.poll_log.specs.Sendings.{server_of}
-use Rattle.poll_log.specs.Questions.{has_name, numbered_sending, first_sending, first_sent, outgoing, outgoing_of, outgoing_from, same_name, times}
+use Rattle.poll_log.specs.Questions.{has_name, numbered_sending, first_sending, first_sent, outgoing, outgoing_of, outgoing_from, times}
 use Rattle.poll_log.proofs.Counts.{seen_here, times-append}
 use Rattle.poll_log.proofs.Names.{AllNew, has_name-append, or-left, or-right}
 
@@ -21,8 +23,8 @@ outgoing_from-append earlier (q ∷ xs) ys =
     (outgoing_from-append (earlier ++ q ∷ []) xs ys ∙ ap (λ l. outgoing_from (earlier ++ q ∷ []) xs ++ outgoing_from l ys) (append_assoc earlier (q ∷ []) xs))
 
 -- The sendings of distinct names, each with the number that says how often its name was sent before, go where they say.
-pub in_turn : (D : List ℕ → ℕ) (falls : Question → Option Sending) (earlier seen qs : List Question) → AllNew seen qs
-    → ((n : List ℕ) → has_name n seen ≡ false → times earlier n ≡ D n)
+pub in_turn : (D : Name → ℕ) (falls : Question → Option Sending) (earlier seen qs : List Question) → AllNew seen qs
+    → ((n : Name) → has_name n seen ≡ false → times earlier n ≡ D n)
     → ((q : Question) (s : Sending) → has_name q.name (seen ++ qs) ≡ true → falls q ≡ Some s → s ≡ numbered_sending q (D q.name))
     → outgoing_from earlier (questions_of (filter_map falls qs)) ≡ map outgoing_of (filter_map falls qs)
 unfolding outgoing_from
@@ -31,15 +33,15 @@ in_turn D falls earlier seen (q ∷ qs) new counted numbered =
     go (falls q) refl (λ later known. in_turn D falls later (seen ++ q ∷ []) qs new.1 known (λ x s k f. numbered x s (subst (λ l. has_name x.name l ≡ true) (append_assoc seen (q ∷ []) qs) k) f))
   where
     Rest : List Question → Type 0
-    Rest later = ((n : List ℕ) → has_name n (seen ++ q ∷ []) ≡ false → times later n ≡ D n) → outgoing_from later (questions_of (filter_map falls qs)) ≡ map outgoing_of (filter_map falls qs)
+    Rest later = ((n : Name) → has_name n (seen ++ q ∷ []) ≡ false → times later n ≡ D n) → outgoing_from later (questions_of (filter_map falls qs)) ≡ map outgoing_of (filter_map falls qs)
 
-    unseen : (n : List ℕ) → has_name n (seen ++ q ∷ []) ≡ false → has_name n seen ≡ false
+    unseen : (n : Name) → has_name n (seen ++ q ∷ []) ≡ false → has_name n seen ≡ false
     unseen n k = or-left _ _ (sym (has_name-append n seen (q ∷ [])) ∙ k)
 
-    other : (n : List ℕ) → has_name n (seen ++ q ∷ []) ≡ false → same_name q.name n ≡ false
+    other : (n : Name) → has_name n (seen ++ q ∷ []) ≡ false → same_name q.name n ≡ false
     other n k = or-left _ false (or-right (has_name n seen) _ (sym (has_name-append n seen (q ∷ [])) ∙ k))
 
-    sent_once : (n : List ℕ) → has_name n (seen ++ q ∷ []) ≡ false → times (earlier ++ q ∷ []) n ≡ D n
+    sent_once : (n : Name) → has_name n (seen ++ q ∷ []) ≡ false → times (earlier ++ q ∷ []) n ≡ D n
     sent_once n k = times-append earlier (q ∷ []) n ∙ ap (λ b. times earlier n + (cond b 1 0 + 0)) (other n k) ∙ (let e = counted n (unseen n k) in omega arith)
 
     placed : (s : Sending) → s ≡ numbered_sending q (D q.name) → outgoing (server_of (times earlier s.question.name)) s.question ≡ outgoing_of s
@@ -72,7 +74,7 @@ first_questions [] = refl
 first_questions (q ∷ qs) = ap (λ l. q ∷ l) (first_questions qs)
 
 -- questions for names that were not sent before go to the first server
-pub new_to_first : (earlier seen qs : List Question) → AllNew seen qs → ((n : List ℕ) → has_name n seen ≡ false → times earlier n ≡ 0) → outgoing_from earlier qs ≡ first_sent qs
+pub new_to_first : (earlier seen qs : List Question) → AllNew seen qs → ((n : Name) → has_name n seen ≡ false → times earlier n ≡ 0) → outgoing_from earlier qs ≡ first_sent qs
 unfolding always
 new_to_first earlier seen qs new unsent =
     ap (outgoing_from earlier) (sym (first_questions qs))

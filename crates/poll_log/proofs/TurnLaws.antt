@@ -3,6 +3,7 @@ use Rattle.std.proofs.Common.{◌≡◌, ℕ, ◌+◌, ◌-◌, ◌<◌, ◌≤�
 use Rattle.std.specs.Prelude.{if◌then◌else◌, is_some}
 use Rattle.std.proofs.lemmas.Bool.Decides.{nat_tests}
 use Rattle.pac_names.specs.declared.answer.Answer.{Answer}
+use Rattle.pac_names.specs.Names.{Name}
 use Rattle.poll_log.specs.declared.question.Question.{Question}
 use Rattle.poll_log.specs.declared.sending.Sending.{Sending}
 use Rattle.poll_log.specs.declared.terms.Terms.{Terms}
@@ -38,22 +39,22 @@ distinct (Begin sent) = new_among-is_new [] (asked_in sent)
 distinct (Then h e sent) = AllNew-append [] (firsts h) (new_among (firsts h) (asked_in sent)) (distinct h) (new_among-is_new (firsts h) (asked_in sent))
 
 -- what was not sent by now was not sent before
-pub unsent_before : (h : Turns) (e : Event) (sent : List Outgoing) (n : List ℕ) → was_sent (Then h e sent) n ≡ false → was_sent h n ≡ false
+pub unsent_before : (h : Turns) (e : Event) (sent : List Outgoing) (n : Name) → was_sent (Then h e sent) n ≡ false → was_sent h n ≡ false
 unfolding firsts
 unsent_before h e sent n k = or-left _ _ (sym (has_name-append n (firsts h) (new_among (firsts h) (asked_in sent))) ∙ k)
 
 -- what was sent before was sent by now
-pub sent_before : (h : Turns) (e : Event) (sent : List Outgoing) (n : List ℕ) → was_sent h n ≡ true → was_sent (Then h e sent) n ≡ true
+pub sent_before : (h : Turns) (e : Event) (sent : List Outgoing) (n : Name) → was_sent h n ≡ true → was_sent (Then h e sent) n ≡ true
 unfolding firsts
 sent_before h e sent n k = has_name-append n (firsts h) (new_among (firsts h) (asked_in sent)) ∙ or-first _ _ k
 
-pub accepted_unsent : (t : Terms) (h : Turns) (e : Event) (n : List ℕ) → was_sent h n ≡ false → accepted t h e n ≡ None
+pub accepted_unsent : (t : Terms) (h : Turns) (e : Event) (n : Name) → was_sent h n ≡ false → accepted t h e n ≡ None
 unfolding accepted accepted_in
 accepted_unsent t h Tick n k = refl
 accepted_unsent t h (Given d) n k = ap (λ b. cond (b && not (nat_le (limit t) (age h n))) (reply_to (number_in (firsts h) n) d n) None) k
 
 -- what was not sent is not told
-pub told_unsent : (t : Terms) (h : Turns) (n : List ℕ) → was_sent h n ≡ false → told t h n ≡ None
+pub told_unsent : (t : Terms) (h : Turns) (n : Name) → was_sent h n ≡ false → told t h n ≡ None
 unfolding told
 told_unsent t (Begin sent) n k = refl
 told_unsent t (Then h e sent) n k =
@@ -61,25 +62,25 @@ told_unsent t (Then h e sent) n k =
     ap (λ r. or_else r (accepted t h e n)) (told_unsent t h n f) ∙ accepted_unsent t h e n f
 
 -- and has no age
-pub age_unsent : (h : Turns) (n : List ℕ) → was_sent h n ≡ false → age h n ≡ 0
+pub age_unsent : (h : Turns) (n : Name) → was_sent h n ≡ false → age h n ≡ 0
 unfolding age
 age_unsent (Begin sent) n k = refl
 age_unsent (Then h e sent) n k = ap (λ b. cond b (age h n + beat_of h e) 0) k
 
-pub age-begin : (sent : List Outgoing) (n : List ℕ) → age (Begin sent) n ≡ 0
+pub age-begin : (sent : List Outgoing) (n : Name) → age (Begin sent) n ≡ 0
 unfolding age
 age-begin sent n = refl
 
 -- a name that was sent by the turn's end is older by the event
-pub age_next : (h : Turns) (e : Event) (sent : List Outgoing) (n : List ℕ) → was_sent (Then h e sent) n ≡ true → age (Then h e sent) n ≡ age h n + beat_of h e
+pub age_next : (h : Turns) (e : Event) (sent : List Outgoing) (n : Name) → was_sent (Then h e sent) n ≡ true → age (Then h e sent) n ≡ age h n + beat_of h e
 unfolding age
 age_next h e sent n k = ap (λ b. cond b (age h n + beat_of h e) 0) k
 
-pub told-begin : (t : Terms) (sent : List Outgoing) (n : List ℕ) → told t (Begin sent) n ≡ None
+pub told-begin : (t : Terms) (sent : List Outgoing) (n : Name) → told t (Begin sent) n ≡ None
 unfolding told
 told-begin t sent n = refl
 
-pub told_next : (t : Terms) (h : Turns) (e : Event) (sent : List Outgoing) (n : List ℕ) → told t (Then h e sent) n ≡ or_else (told t h n) (accepted t h e n)
+pub told_next : (t : Terms) (h : Turns) (e : Event) (sent : List Outgoing) (n : Name) → told t (Then h e sent) n ≡ or_else (told t h n) (accepted t h e n)
 unfolding told
 told_next t h e sent n = refl
 
@@ -89,17 +90,17 @@ unfolding told
 told_by_event t h e sent other = refl
 
 -- an answer stays
-pub told_stays : (t : Terms) (h : Turns) (e : Event) (sent : List Outgoing) (n : List ℕ) (x : Answer) → told t h n ≡ Some x → told t (Then h e sent) n ≡ Some x
+pub told_stays : (t : Terms) (h : Turns) (e : Event) (sent : List Outgoing) (n : Name) (x : Answer) → told t h n ≡ Some x → told t (Then h e sent) n ≡ Some x
 unfolding told
 told_stays t h e sent n x k = ap (λ r. or_else r (accepted t h e n)) k
 
-pub stopped_untold : (t : Terms) (h : Turns) (n : List ℕ) → told t h n ≡ None → stopped_age t h n ≡ age h n
+pub stopped_untold : (t : Terms) (h : Turns) (n : Name) → told t h n ≡ None → stopped_age t h n ≡ age h n
 unfolding stopped_age age
 stopped_untold t (Begin sent) n k = refl
 stopped_untold t (Then h e sent) n k = ap (λ r. cond (is_none r) (age (Then h e sent) n) (cond (is_none (told t h n)) (age h n) (stopped_age t h n))) k
 
 -- an accepted reply was in time
-pub accepted_young : (t : Terms) (h : Turns) (e : Event) (n : List ℕ) (x : Answer) → accepted t h e n ≡ Some x → age h n < limit t
+pub accepted_young : (t : Terms) (h : Turns) (e : Event) (n : Name) (x : Answer) → accepted t h e n ≡ Some x → age h n < limit t
 unfolding accepted accepted_in
 accepted_young t h Tick n x k = none_some x k
 accepted_young t h (Given d) n x k = go (was_sent h n) (nat_le (limit t) (age h n)) refl (reply_to (number_in (firsts h) n) d n) k
@@ -113,7 +114,7 @@ accepted_young t h (Given d) n x k = go (was_sent h n) (nat_le (limit t) (age h 
     go false c f r k = none_some x k
 
 -- an overdue name is not answered any more
-pub accepted_overdue : (t : Terms) (h : Turns) (e : Event) (n : List ℕ) → is_overdue t h n ≡ true → accepted t h e n ≡ None
+pub accepted_overdue : (t : Terms) (h : Turns) (e : Event) (n : Name) → is_overdue t h n ≡ true → accepted t h e n ≡ None
 unfolding accepted accepted_in
 accepted_overdue t h Tick n k = refl
 accepted_overdue t h (Given d) n k = ap (λ b. cond (was_sent h n && not b) (reply_to (number_in (firsts h) n) d n) None) k ∙ ap (λ b. cond b (reply_to (number_in (firsts h) n) d n) None) (and-false (was_sent h n))
@@ -123,7 +124,7 @@ abbrev pub falls_due : Terms → Turns → Event → Question → Option Sending
 falls_due t h e q = if is_beat h e then sent_again t (told t (Then h e [])) (λ m. age h m + 1) q else None
 
 -- whether one falls due for the name
-abbrev pub falls_at : Terms → Turns → Event → List ℕ → Bool
+abbrev pub falls_at : Terms → Turns → Event → Name → Bool
 falls_at t h e n = is_beat h e && (flies (limit t) (told t (Then h e [])) (λ m. age h m + 1) n && is_some (sending_at t (age h n + 1)))
 
 module _ (t : Terms) (w : 0 < t.wait) (r : 0 < t.tries) where
@@ -136,7 +137,7 @@ module _ (t : Terms) (w : 0 < t.wait) (r : 0 < t.tries) where
       none_due t.wait m a w (omega arith)
 
   -- what a name is due rises by one where a sending falls due
-  pub due_next : (h : Turns) (e : Event) (sent : List Outgoing) (n : List ℕ) → was_sent (Then h e sent) n ≡ true → due_sends t (Then h e sent) n ≡ due_sends t h n + cond (falls_at t h e n) 1 0
+  pub due_next : (h : Turns) (e : Event) (sent : List Outgoing) (n : Name) → was_sent (Then h e sent) n ≡ true → due_sends t (Then h e sent) n ≡ due_sends t h n + cond (falls_at t h e n) 1 0
   unfolding due_sends stopped_age told
   due_next h e sent n s = go (told t h n) refl (accepted t h e n) refl
     where
@@ -170,7 +171,7 @@ module _ (t : Terms) (w : 0 < t.wait) (r : 0 < t.tries) where
   unfolding due_sends told
   falls_numbered h e q s k = by_beat (is_beat h e) k
     where
-      n : List ℕ
+      n : Name
       n = q.name
 
       a : ℕ
@@ -194,10 +195,10 @@ module _ (t : Terms) (w : 0 < t.wait) (r : 0 < t.tries) where
       by_beat true k = by_told (told t h n) refl (accepted t h e n) (nat_lt a (limit t)) k
       by_beat false k = none_some s k
 
-  pub due_unsent : (h : Turns) (n : List ℕ) → was_sent h n ≡ false → due_sends t h n ≡ 1
+  pub due_unsent : (h : Turns) (n : Name) → was_sent h n ≡ false → due_sends t h n ≡ 1
   unfolding due_sends
   due_unsent h n k = ap (λ x. fallen_due t.wait (t.tries - 1) x + 1) (stopped_untold t h n (told_unsent t h n k) ∙ age_unsent h n k) ∙ ap (λ x. x + 1) (none_fallen t.wait (t.tries - 1) w)
 
-  pub due_begin : (sent : List Outgoing) (n : List ℕ) → due_sends t (Begin sent) n ≡ 1
+  pub due_begin : (sent : List Outgoing) (n : Name) → due_sends t (Begin sent) n ≡ 1
   unfolding due_sends stopped_age
   due_begin sent n = ap (λ x. x + 1) (none_fallen t.wait (t.tries - 1) w)

@@ -5,6 +5,8 @@ use Rattle.std.proofs.Common.{lit<}
 use Rattle.std.proofs.lemmas.List.Elements.{All-nil, All-push}
 use Rattle.pac_names.specs.declared.answer.Answer.{Answer}
 use Rattle.pac_names.specs.declared.answer.Answer.TheVariants.{Address}
+use Rattle.pac_names.specs.declared.kind.NameKind.TheVariants.{V4, V6}
+use Rattle.pac_names.specs.Names.{Name}
 use Rattle.pac_ports.specs.declared.link.Move.{Move}
 use Rattle.pac_ports.specs.declared.link.Move.TheVariants.{Sent, Given, Tick}
 use Rattle.pac_ports.specs.declared.link.Which.TheVariants.{First, Second}
@@ -23,8 +25,8 @@ use Rattle.poll_log.specs.Questions.{IsQuestion, asked_by, firsts, new_among, ou
 use Rattle.poll_log.specs.Told.{age, told, accepted, accepted_in, is_dead, stopped_age, due_sends}
 use Rattle.poll_log.specs.Jobs.{Job, IsPolled, is_waiting, once, runs_of}
 
-abbrev pub example : List ℕ
-example = codes "example.com"
+abbrev pub example : Name
+example = record { kind = V4; text = codes "example.com" }
 
 -- the question for it under the number 1234 (hexadecimal)
 abbrev pub asked : List ℕ
@@ -34,7 +36,7 @@ asked = 0x12 ∷ 0x34 ∷ 0x01 ∷ 0 ∷ 0 ∷ 1 ∷ 0 ∷ 0 ∷ 0 ∷ 0 ∷ 0 �
 abbrev pub answered : List ℕ
 answered = 0x12 ∷ 0x34 ∷ 0x81 ∷ 0x80 ∷ 0 ∷ 1 ∷ 0 ∷ 1 ∷ 0 ∷ 0 ∷ 0 ∷ 0 ∷ 7 ∷ codes "example" ++ 3 ∷ codes "com" ++ 0 ∷ 0 ∷ 1 ∷ 0 ∷ 1 ∷ 0xc0 ∷ 0x0c ∷ 0 ∷ 1 ∷ 0 ∷ 1 ∷ 0 ∷ 0 ∷ 0 ∷ 60 ∷ 0 ∷ 4 ∷ 93 ∷ 184 ∷ 216 ∷ 34 ∷ []
 
-abbrev pub lacking : Option Answer → Option (List ℕ)
+abbrev pub lacking : Option Answer → Option Name
 lacking None = Some example
 lacking (Some answer) = None
 
@@ -67,6 +69,14 @@ usual-servers = refl
 pub question_is : asked_by asked ≡ Some (record { id = 0x1234; name = example })
 unfolding asked_by question_octets
 question_is = refl
+
+-- the question for its IPv6 addresses under the same number
+abbrev pub asked6 : List ℕ
+asked6 = take 26 asked ++ 28 ∷ 0 ∷ 1 ∷ []
+
+pub question6_is : asked_by asked6 ≡ Some (record { id = 0x1234; name = record { kind = V6; text = codes "example.com" } })
+unfolding asked_by question_octets
+question6_is = refl
 
 -- A reply comes at once.
 abbrev pub at_once : List Move

@@ -1,17 +1,19 @@
 -- What has become of jobs that wait for names, what they have cost, and which sends they are owed.
 use Rattle.std.specs.Prelude.{◌≡◌, ℕ, ◌+◌, Bool, true, false, not, nat_lt, if◌then◌else◌, Option, Some, None, is_some, List, [], ◌∷◌, ◌++◌}
 use Rattle.std.specs.List.{All, filter, filter_map, list_any}
+use Rattle.pac_names.specs.Comparing.{same_name}
+use Rattle.pac_names.specs.Names.{Name}
 use Rattle.poll_log.specs.declared.question.Question.{Question}
 use Rattle.poll_log.specs.declared.terms.Terms.{Terms}
 use Rattle.poll_log.specs.Turns.{Outgoing, Turns, Begin, Then, with_sent}
-use Rattle.poll_log.specs.Questions.{IsQuestion, outgoing_from, questions, firsts, names_of, same_name, times}
+use Rattle.poll_log.specs.Questions.{IsQuestion, outgoing_from, questions, firsts, names_of, times}
 use Rattle.poll_log.specs.Told.{Map, told, is_dead, due_sends}
 
 -- A job is known by the first name that its run asks and the answers don't hold, where there is one.
 abbrev pub Job : Type 0
-Job = Map → Option (List ℕ)
+Job = Map → Option Name
 
-abbrev pub waits_unless : (List ℕ → Bool) → Option (List ℕ) → Bool
+abbrev pub waits_unless : (Name → Bool) → Option Name → Bool
 waits_unless dead None = false
 waits_unless dead (Some n) = not (dead n)
 
@@ -20,12 +22,12 @@ abbrev pub is_waiting : Terms → Turns → Job → Bool
 is_waiting terms turns job = waits_unless (is_dead terms turns) (job (told terms turns))
 
 -- the job waits for the name: it is the first untold one, and is not dead
-pub record WaitsFor (terms : Terms) (turns : Turns) (job : Job) (n : List ℕ) : Type 0 where
+pub record WaitsFor (terms : Terms) (turns : Turns) (job : Job) (n : Name) : Type 0 where
   pub first : job (told terms turns) ≡ Some n
   pub alive : is_dead terms turns n ≡ false
 
 -- the job's first untold name is dead
-pub record IsUnanswered (terms : Terms) (turns : Turns) (job : Job) (n : List ℕ) : Type 0 where
+pub record IsUnanswered (terms : Terms) (turns : Turns) (job : Job) (n : Name) : Type 0 where
   pub first : job (told terms turns) ≡ Some n
   pub dead : is_dead terms turns n ≡ true
 
@@ -34,7 +36,7 @@ abbrev pub IsFinished : Terms → Turns → Job → Type 0
 IsFinished terms turns job = job (told terms turns) ≡ None
 
 -- one where the name is told
-abbrev pub told_to : Option (List ℕ) → Map → ℕ
+abbrev pub told_to : Option Name → Map → ℕ
 told_to None answers = 0
 told_to (Some n) answers = if is_some (answers n) then 1 else 0
 
@@ -45,15 +47,15 @@ runs_of terms (Then before event sent) job =
     runs_of terms before job + told_to (job (told terms before)) (told terms (Then before event sent))
 
 -- the first untold names of the jobs, in the order of the jobs
-abbrev pub wanted : List Job → Map → List (List ℕ)
+abbrev pub wanted : List Job → Map → List Name
 wanted jobs answers = filter_map (λ job. job answers) jobs
 
-abbrev pub onto_new : Bool → List ℕ → List (List ℕ) → List (List ℕ) → List (List ℕ)
+abbrev pub onto_new : Bool → Name → List Name → List Name → List Name
 onto_new true n left behind = left
 onto_new false n left behind = n ∷ behind
 
 -- these names, each once, without those that were seen
-unfoldable pub once : List (List ℕ) → List (List ℕ) → List (List ℕ)
+unfoldable pub once : List Name → List Name → List Name
 once seen [] = []
 once seen (n ∷ ns) = onto_new (list_any (λ m. same_name m n) seen) n (once seen ns) (once (seen ++ n ∷ []) ns)
 

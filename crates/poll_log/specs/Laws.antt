@@ -2,6 +2,7 @@
 use Rattle.std.specs.Prelude.{◌≡◌, ℕ, ◌+◌, ◌*◌, ◌<◌, ◌≤◌, true, false, Option, Some, None, IsSome, List, [], ◌∷◌, ◌++◌, length, if◌then◌else◌}
 use Rattle.std.specs.List.{All}
 use Rattle.pac_names.specs.declared.answer.Answer.{Answer}
+use Rattle.pac_names.specs.Names.{Name}
 use Rattle.pac_ports.specs.declared.link.Move.{Move}
 use Rattle.poll_log.specs.declared.terms.TheConstants.{FLOOD}
 use Rattle.poll_log.specs.declared.question.Question.{Question}
@@ -15,7 +16,7 @@ use Rattle.poll_log.specs.Jobs.{Job, IsFinished, IsUnanswered, runs_of, some_wai
 
 -- the larger map holds each answer of the smaller one
 abbrev pub Extends : Map → Map → Type 0
-Extends larger smaller = (n : List ℕ) (x : Answer) → smaller n ≡ Some x → larger n ≡ Some x
+Extends larger smaller = (n : Name) (x : Answer) → smaller n ≡ Some x → larger n ≡ Some x
 
 -- The extension law, as far as it speaks of the first name that a job lacks: its run goes by the answers to the names that
 -- it asks, in their order, and asks so many at most.
@@ -23,50 +24,50 @@ pub record IsRestartable (most : ℕ) (job : Job) : Type 0 where
   -- how many names its run asks before the first one that it lacks
   pub depth : Map → ℕ
   -- what it lacks is not held
-  pub lacks : (map : Map) (n : List ℕ) → job map ≡ Some n → map n ≡ None
+  pub lacks : (map : Map) (n : Name) → job map ≡ Some n → map n ≡ None
   -- it lacks the same name until that one is held
-  pub waits : (larger smaller : Map) (n : List ℕ) → Extends larger smaller → job smaller ≡ Some n → larger n ≡ None → job larger ≡ Some n
+  pub waits : (larger smaller : Map) (n : Name) → Extends larger smaller → job smaller ≡ Some n → larger n ≡ None → job larger ≡ Some n
   -- where it lacks none it never does
   pub done : (larger smaller : Map) → Extends larger smaller → job smaller ≡ None → job larger ≡ None
   -- more answers never make it ask less, and the answer to the name that it lacks makes it ask more
   pub grows : (larger smaller : Map) → Extends larger smaller → depth smaller ≤ depth larger
-  pub deeper : (larger smaller : Map) (n : List ℕ) (x : Answer) → Extends larger smaller → job smaller ≡ Some n → larger n ≡ Some x → depth smaller + 1 ≤ depth larger
+  pub deeper : (larger smaller : Map) (n : Name) (x : Answer) → Extends larger smaller → job smaller ≡ Some n → larger n ≡ Some x → depth smaller + 1 ≤ depth larger
   pub within : (map : Map) → depth map ≤ most
-  pub before : (map : Map) (n : List ℕ) → job map ≡ Some n → depth map + 1 ≤ most
+  pub before : (map : Map) (n : Name) → job map ≡ Some n → depth map + 1 ≤ most
 
-abbrev pub lacking_or : List ℕ → Option Answer → Option (List ℕ) → Option (List ℕ)
+abbrev pub lacking_or : Name → Option Answer → Option Name → Option Name
 lacking_or n None rest = Some n
 lacking_or n (Some answer) rest = rest
 
 -- the first of the names that a map doesn't hold
-abbrev pub first_lacking : List (List ℕ) → Map → Option (List ℕ)
+abbrev pub first_lacking : List Name → Map → Option Name
 first_lacking [] map = None
 first_lacking (n ∷ ns) map = lacking_or n (map n) (first_lacking ns map)
 
-abbrev pub only_behind : Option Answer → List (List ℕ) → List (List ℕ)
+abbrev pub only_behind : Option Answer → List Name → List Name
 only_behind None rest = []
 only_behind (Some answer) rest = rest
 
 -- the names up to that one, it included
-abbrev pub up_to_lacking : List (List ℕ) → Map → List (List ℕ)
+abbrev pub up_to_lacking : List Name → Map → List Name
 up_to_lacking [] map = []
 up_to_lacking (n ∷ ns) map = n ∷ only_behind (map n) (up_to_lacking ns map)
 
 -- The extension law of a run, by the names that it asks against a map, in order: more answers leave a run that lacks none,
 -- and else the names that it asks up to the first that it lacks.
-pub record AsksInOrder (most : ℕ) (asked : Map → List (List ℕ)) : Type 0 where
+pub record AsksInOrder (most : ℕ) (asked : Map → List Name) : Type 0 where
   pub done : (larger smaller : Map) → Extends larger smaller → first_lacking (asked smaller) smaller ≡ None → asked larger ≡ asked smaller
-  pub agrees : (larger smaller : Map) (n : List ℕ) → Extends larger smaller → first_lacking (asked smaller) smaller ≡ Some n
-      → (rest : List (List ℕ)) × (asked larger ≡ up_to_lacking (asked smaller) smaller ++ rest)
+  pub agrees : (larger smaller : Map) (n : Name) → Extends larger smaller → first_lacking (asked smaller) smaller ≡ Some n
+      → (rest : List Name) × (asked larger ≡ up_to_lacking (asked smaller) smaller ++ rest)
   pub within : (map : Map) → length (asked map) ≤ most
 
 -- so it is restartable, and its depth is at most the number of names that it asks
-pub record IsRestartableBy (most : ℕ) (asked : Map → List (List ℕ)) : Type 0 where
+pub record IsRestartableBy (most : ℕ) (asked : Map → List Name) : Type 0 where
   pub law : IsRestartable most (λ map. first_lacking (asked map) map)
   pub depth : (map : Map) → law.depth map ≤ length (asked map)
 
 abbrev pub RunsAreRestartable : Type 0
-RunsAreRestartable = (most : ℕ) (asked : Map → List (List ℕ)) → AsksInOrder most asked → IsRestartableBy most asked
+RunsAreRestartable = (most : ℕ) (asked : Map → List Name) → AsksInOrder most asked → IsRestartableBy most asked
 
 -- the octets of a question are read as that question
 abbrev pub QuestionsAreRead : Type 0
@@ -74,11 +75,11 @@ QuestionsAreRead = (q : Question) → IsQuestion q → asked_by (octets_of q) �
 
 -- what was not sent is not told
 abbrev pub ToldWasSent : Type 0
-ToldWasSent = (terms : Terms) (turns : Turns) (n : List ℕ) → IsSome (told terms turns n) → was_sent turns n ≡ true
+ToldWasSent = (terms : Terms) (turns : Turns) (n : Name) → IsSome (told terms turns n) → was_sent turns n ≡ true
 
 -- the age of a name that was sent is the number of beats from its birth turn on
 abbrev pub AgeIsSinceBirth : Type 0
-AgeIsSinceBirth = (turns : Turns) (n : List ℕ) → was_sent turns n ≡ true → beats_before_birth turns n + age turns n ≡ beats turns
+AgeIsSinceBirth = (turns : Turns) (n : Name) → was_sent turns n ≡ true → beats_before_birth turns n + age turns n ≡ beats turns
 
 -- told answers only grow: in a longer log each stands as it was
 abbrev pub ToldGrows : Type 0
@@ -86,7 +87,7 @@ ToldGrows = (terms : Terms) (moves more : List Move) → Extends (told terms (tu
 
 -- a dead name stays dead
 abbrev pub DeadStays : Type 0
-DeadStays = (terms : Terms) (moves more : List Move) (n : List ℕ) → IsDead terms (turns_of moves) n → IsDead terms (turns_of (moves ++ more)) n
+DeadStays = (terms : Terms) (moves more : List Move) (n : Name) → IsDead terms (turns_of moves) n → IsDead terms (turns_of (moves ++ more)) n
 
 -- a finished job stays finished
 abbrev pub FinishedStays : Type 0
@@ -97,12 +98,12 @@ FinishedStays =
 -- an unanswered job stays so, with its name
 abbrev pub UnansweredStays : Type 0
 UnansweredStays =
-    (most : ℕ) (terms : Terms) (moves more : List Move) (job : Job) (n : List ℕ) → IsRestartable most job
+    (most : ℕ) (terms : Terms) (moves more : List Move) (job : Job) (n : Name) → IsRestartable most job
     → IsUnanswered terms (turns_of moves) job n → IsUnanswered terms (turns_of (moves ++ more)) job n
 
 -- all that was sent is told
 abbrev pub IsAllTold : Terms → Turns → Type 0
-IsAllTold terms turns = (n : List ℕ) → was_sent turns n ≡ true → IsSome (told terms turns n)
+IsAllTold terms turns = (n : Name) → was_sent turns n ≡ true → IsSome (told terms turns n)
 
 -- where no job waits and all that was sent is told, each job is finished: none is unanswered
 abbrev pub AllToldFinishes : Type 0
@@ -120,7 +121,7 @@ RunBound =
 abbrev pub SentAsDue : Type 0
 SentAsDue =
     (terms : Terms) (jobs : List Job) (turns : Turns) → 0 < terms.wait → 0 < terms.tries → SendsOwed terms jobs turns
-    → (n : List ℕ) → times (questions turns) n ≡ (if was_sent turns n then due_sends terms turns n else 0)
+    → (n : Name) → times (questions turns) n ≡ (if was_sent turns n then due_sends terms turns n else 0)
 
 -- A log has an end.
 pub record IsBounded (most : ℕ) (terms : Terms) (jobs : List Job) (turns : Turns) : Type 0 where

@@ -1,21 +1,20 @@
 -- The questions among the datagrams that were sent, and which were sent first (RFC 1035, section 4.1).
-use Rattle.std.specs.Prelude.{ℕ, ◌+◌, ◌-◌, ◌<◌, ◌^◌, IsTrue, Bool, true, false, ◌&&◌, nat_eq, List, [], ◌∷◌, ◌++◌, map, length, slice_range, Option, Some, None, if◌then◌else◌}
+use Rattle.std.specs.Prelude.{ℕ, ◌+◌, ◌-◌, ◌<◌, ◌^◌, IsTrue, Bool, true, false, ◌&&◌, ◌==◌, nat_eq, List, [], ◌∷◌, ◌++◌, map, length, slice_range, Option, Some, None, if◌then◌else◌}
 use Rattle.std.specs.List.{filter_map, list_any}
 use Rattle.std.specs.Cmp.Lexicographic.{pointwise}
-use Rattle.pac_names.specs.Names.{is_lookup_name}
+use Rattle.pac_names.specs.declared.kind.NameKind.{NameKind}
+use Rattle.pac_names.specs.declared.kind.NameKind.TheVariants.{V4, V6}
+use Rattle.pac_names.specs.Names.{Name, is_lookup_name}
+use Rattle.pac_names.specs.Comparing.{same_name}
 use Rattle.pac_ports.specs.declared.link.Which.{Which}
 use Rattle.pac_ports.specs.declared.link.Which.TheVariants.{First}
 use Rattle.dns_message.specs.Dotted.{dotted}
 use Rattle.dns_message.specs.Numbers.{number_at}
-use Rattle.dns_message.specs.Question.{question_octets}
+use Rattle.dns_message.specs.Question.{question_octets, type_aaaa}
 use Rattle.poll_log.specs.declared.question.Question.{Question}
 use Rattle.poll_log.specs.declared.sending.Sending.{Sending}
 use Rattle.poll_log.specs.Sendings.{server_of}
 use Rattle.poll_log.specs.Turns.{Outgoing, Turns, Begin, Then}
-
--- whether two names are one; names are lists of bytes in lower case
-abbrev pub same_name : List ℕ → List ℕ → Bool
-same_name name other = pointwise nat_eq name other
 
 -- a question has a number of 16 bits and a lookup name
 pub record IsQuestion (q : Question) : Type 0 where
@@ -48,9 +47,20 @@ abbrev pub dotted_labels : List ℕ → List ℕ
 dotted_labels [] = []
 dotted_labels (first ∷ octets) = dotted first octets
 
--- the number and the name that a question has where they stand: its name is followed by the root, QTYPE and QCLASS
+-- the kind of the names that a question of this type asks for (RFC 1035, section 3.2.2; RFC 3596, section 2.1)
+abbrev pub kind_asked : ℕ → NameKind
+kind_asked type = if type == type_aaaa then V6 else V4
+
+-- the name that a question has where it stands, followed by the root, QTYPE and QCLASS
+abbrev pub name_in : List ℕ → Name
+name_in octets = record {
+  kind = kind_asked (number_at octets (length octets - 4));
+  text = dotted_labels (slice_range octets 12 (length octets - 5));
+}
+
+-- the number and the name that a question has where they stand
 abbrev pub question_in : List ℕ → Question
-question_in octets = record { id = number_at octets 0; name = dotted_labels (slice_range octets 12 (length octets - 5)) }
+question_in octets = record { id = number_at octets 0; name = name_in octets }
 
 -- the question, where it is one and these are its octets
 abbrev pub checked_question : List ℕ → Question → Option Question
@@ -68,10 +78,10 @@ unfoldable pub questions : Turns → List Question
 questions (Begin sent) = asked_in sent
 questions (Then before event sent) = questions before ++ asked_in sent
 
-abbrev pub has_name : List ℕ → List Question → Bool
+abbrev pub has_name : Name → List Question → Bool
 has_name n qs = list_any (λ q. same_name q.name n) qs
 
-abbrev pub names_of : List Question → List (List ℕ)
+abbrev pub names_of : List Question → List Name
 names_of qs = map (λ q. q.name) qs
 
 abbrev pub onto_unless : Bool → Question → List Question → List Question → List Question
@@ -88,11 +98,11 @@ unfoldable pub firsts : Turns → List Question
 firsts (Begin sent) = new_among [] (asked_in sent)
 firsts (Then before event sent) = firsts before ++ new_among (firsts before) (asked_in sent)
 
-abbrev pub was_sent : Turns → List ℕ → Bool
+abbrev pub was_sent : Turns → Name → Bool
 was_sent turns n = has_name n (firsts turns)
 
 -- the number in the first send of the name
-unfoldable pub number_in : List Question → List ℕ → Option ℕ
+unfoldable pub number_in : List Question → Name → Option ℕ
 number_in [] n = None
 number_in (q ∷ qs) n = if same_name q.name n then Some q.id else number_in qs n
 
@@ -101,7 +111,7 @@ abbrev pub drawn : Turns → List ℕ
 drawn turns = map (λ q. q.id) (firsts turns)
 
 -- how often a question for the name stands in a list
-abbrev pub times : List Question → List ℕ → ℕ
+abbrev pub times : List Question → Name → ℕ
 times [] n = 0
 times (q ∷ qs) n = (if same_name q.name n then 1 else 0) + times qs n
 
@@ -112,6 +122,6 @@ outgoing_from earlier [] = []
 outgoing_from earlier (q ∷ qs) = outgoing (server_of (times earlier q.name)) q ∷ outgoing_from (earlier ++ q ∷ []) qs
 
 -- the turns before the one in which the name was first sent; none where it was sent in turn 0, or never
-unfoldable pub before_birth : Turns → List ℕ → Option Turns
+unfoldable pub before_birth : Turns → Name → Option Turns
 before_birth (Begin sent) n = None
 before_birth (Then before event sent) n = if was_sent before n then before_birth before n else Some before

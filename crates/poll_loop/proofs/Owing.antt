@@ -1,9 +1,9 @@
 -- In each turn some sends are owed.
-use Rattle.std.proofs.Common.{◌≡◌, ℕ, ◌<◌, Bool, true, false, List, [], ◌∷◌, ◌++◌, map, Option, Some, None, IsTrue, refl, sym, ◌∙◌, ap, subst}
+use Rattle.std.proofs.Common.{◌≡◌, ◌<◌, Bool, true, false, List, [], ◌∷◌, ◌++◌, map, Option, Some, None, IsTrue, refl, sym, ◌∙◌, ap, subst}
 use Rattle.std.proofs.Common.{lit<}
 use Rattle.std.specs.List.{All, AllByRecursion, cons_option, filter_map}
 use Rattle.std.proofs.lemmas.List.Elements.{All-head, All-tail, All-nil, All-cons}
-use Rattle.pac_names.specs.Names.{is_lookup_name}
+use Rattle.pac_names.specs.Names.{is_lookup_name, Name}
 use Rattle.poll_log.specs.declared.question.Question.{Question}
 use Rattle.poll_log.specs.declared.terms.Terms.{Terms}
 use Rattle.poll_log.specs.Turns.{Outgoing, Turns, Begin, Then, Event}
@@ -17,18 +17,18 @@ use Rattle.poll_log.proofs.Dues.{owed_begin, owed_then}
 use Rattle.poll_loop.specs.Task.{AsksLookupNames}
 
 -- the names that jobs lack are lookup names
-abbrev pub Named : List ℕ → Type 0
+abbrev pub Named : Name → Type 0
 Named n = IsTrue (is_lookup_name n)
 
 pub wanted_named : (jobs : List Job) (M : Map) → All AsksLookupNames jobs → AllByRecursion Named (wanted jobs M)
 wanted_named [] M h = tt
 wanted_named (job ∷ jobs) M h = go (job M) refl (wanted_named jobs M (All-tail AsksLookupNames job jobs h))
   where
-    go : (r : Option (List ℕ)) → job M ≡ r → AllByRecursion Named (wanted jobs M) → AllByRecursion Named (cons_option r (wanted jobs M))
+    go : (r : Option Name) → job M ≡ r → AllByRecursion Named (wanted jobs M) → AllByRecursion Named (cons_option r (wanted jobs M))
     go None e ih = ih
     go (Some n) e ih = (All-head AsksLookupNames job jobs h M n e, ih)
 
-pub once_named : (seen ns : List (List ℕ)) → AllByRecursion Named ns → AllByRecursion Named (once seen ns)
+pub once_named : (seen ns : List Name) → AllByRecursion Named ns → AllByRecursion Named (once seen ns)
 once_named seen [] h = subst (AllByRecursion Named) (sym (once-none seen)) tt
 once_named seen (n ∷ ns) h =
     subst (AllByRecursion Named) (sym (once-cons seen n ns)) (go (has n seen) (once_named seen ns h.1) (once_named (seen ++ n ∷ []) ns h.1))
@@ -38,14 +38,14 @@ once_named seen (n ∷ ns) h =
     go false left behind = (h.0, behind)
 
 -- the questions for names under the number 0
-abbrev asking : List ℕ → Question
+abbrev asking : Name → Question
 asking n = record { id = 0; name = n }
 
-names_back : (ns : List (List ℕ)) → names_of (map asking ns) ≡ ns
+names_back : (ns : List Name) → names_of (map asking ns) ≡ ns
 names_back [] = refl
 names_back (n ∷ ns) = ap (λ l. n ∷ l) (names_back ns)
 
-all_asked : (ns : List (List ℕ)) → AllByRecursion Named ns → All IsQuestion (map asking ns)
+all_asked : (ns : List Name) → AllByRecursion Named ns → All IsQuestion (map asking ns)
 all_asked [] h = All-nil IsQuestion
 all_asked (n ∷ ns) h = All-cons IsQuestion (asking n) (map asking ns) (record { number = lit< tt; name = h.0 }) (all_asked ns h.1)
 

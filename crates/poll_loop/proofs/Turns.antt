@@ -49,6 +49,7 @@ use Rattle.poll_log.specs.Jobs.{is_waiting, waits_unless}
 use Rattle.std.proofs.lemmas.List.{length-map}
 use Rattle.poll_loop.proofs.Waiting.{waits_begin, waits_then}
 use Rattle.pac_names.specs.declared.limits.TheConstants.{MOST_NAMES}
+use Rattle.pac_names.specs.Names.{Name}
 
 -- a link that failed is unsure as before
 still_unsure : (a b : LinkState) → LinkFails a b → has_move a ≡ false → has_move b ≡ false
@@ -136,7 +137,7 @@ all_done : (t : Terms) (jobs : List Job) → wanted jobs (told t (Begin [])) ≡
 all_done t [] e = refl
 all_done t (job ∷ jobs) e = go (job (told t (Begin []))) (λ k. all_done t jobs k) e
   where
-    go : (r : Option (List ℕ)) → (wanted jobs (told t (Begin [])) ≡ [] → list_any (is_waiting t (Begin [])) jobs ≡ false) → cons_option r (wanted jobs (told t (Begin []))) ≡ [] → (waits_unless (is_dead t (Begin [])) r || list_any (is_waiting t (Begin [])) jobs) ≡ false
+    go : (r : Option Name) → (wanted jobs (told t (Begin [])) ≡ [] → list_any (is_waiting t (Begin [])) jobs ≡ false) → cons_option r (wanted jobs (told t (Begin []))) ≡ [] → (waits_unless (is_dead t (Begin [])) r || list_any (is_waiting t (Begin [])) jobs) ≡ false
     go None ih e = ih e
     go (Some n) ih e = cc
 
@@ -149,7 +150,7 @@ none_wait t jobs o = all_done t jobs (wanted_none _ (sym o.asks ∙ ap names_of 
     fresh_none [] again e = refl
     fresh_none (q ∷ fresh) again e = cc
 
-    wanted_none : (ns : List (List ℕ)) → once [] ns ≡ [] → ns ≡ []
+    wanted_none : (ns : List Name) → once [] ns ≡ [] → ns ≡ []
     wanted_none [] e = refl
     wanted_none (n ∷ ns) e = let f : n ∷ once (n ∷ []) ns ≡ [] = sym (once-cons [] n ns) ∙ e in cc
 

@@ -9,7 +9,7 @@ use Rattle.poll_log.specs.declared.question.Question.{Question}
 use Rattle.poll_log.specs.declared.terms.Terms.{Terms}
 use Rattle.poll_log.specs.Turns.{Outgoing, Turns, Begin, Then, Event}
 use Rattle.poll_log.specs.Beats.{is_beat}
-use Rattle.poll_log.specs.Questions.{IsQuestion, asked_in, outgoing_from, firsts, questions, new_among, same_name, has_name, was_sent}
+use Rattle.poll_log.specs.Questions.{IsQuestion, asked_in, outgoing_from, firsts, questions, new_among, has_name, was_sent}
 use Rattle.poll_log.specs.Sendings.{limit}
 use Rattle.poll_log.specs.Told.{Map, told, age, is_dead, due_sends}
 use Rattle.poll_log.specs.Jobs.{IsOwed, Job, SendsOwed, some_wait, waits_unless, wanted}
@@ -24,14 +24,16 @@ use Rattle.poll_log.proofs.Wanted.{fresh_wanted, sent_wanted}
 use Rattle.poll_log.proofs.Dues.{again_are, all_proper, firsts_next, firsts_proper, fresh_new, sent_as_due}
 use Rattle.poll_log.proofs.TurnLaws.{age_next, age_unsent, due_begin, due_next, due_unsent, falls_at, firsts-begin, firsts-then, told_by_event, told-begin}
 use Rattle.pac_names.specs.declared.limits.TheConstants.{MOST_NAMES}
+use Rattle.pac_names.specs.Comparing.{same_name}
+use Rattle.pac_names.specs.Names.{Name}
 
 -- What is wanted.
-module _ (M : Map) (dead : List ℕ → Bool) (n : List ℕ) (alive : dead n ≡ false) where
+module _ (M : Map) (dead : Name → Bool) (n : Name) (alive : dead n ≡ false) where
   some_wants : (jobs : List Job) → has n (wanted jobs M) ≡ true → list_any (λ job. waits_unless dead (job M)) jobs ≡ true
   some_wants [] h = true_false (sym h)
   some_wants (job ∷ jobs) h = go (job M) (λ k. some_wants jobs k) h
     where
-      go : (r : Option (List ℕ)) → (has n (wanted jobs M) ≡ true → list_any (λ job. waits_unless dead (job M)) jobs ≡ true) → has n (cons_option r (wanted jobs M)) ≡ true → (waits_unless dead r || list_any (λ job. waits_unless dead (job M)) jobs) ≡ true
+      go : (r : Option Name) → (has n (wanted jobs M) ≡ true → list_any (λ job. waits_unless dead (job M)) jobs ≡ true) → has n (cons_option r (wanted jobs M)) ≡ true → (waits_unless dead r || list_any (λ job. waits_unless dead (job M)) jobs) ≡ true
       go None ih h = ih h
       go (Some m) ih h = same (same_name m n) refl h
         where
@@ -90,7 +92,7 @@ new_or_again (f ∷ fresh) again (p ∷ pre) rest q e =
       | inr a ↦ inr (record { front = a.front; back = a.back; parts = a.parts })
     ]
 
-unsent_alive : (t : Terms) (h : Turns) (n : List ℕ) → was_sent h n ≡ false → is_dead t h n ≡ false
+unsent_alive : (t : Terms) (h : Turns) (n : Name) → was_sent h n ≡ false → is_dead t h n ≡ false
 unfolding is_dead
 unsent_alive t h n k = ap (λ b. (b && is_none (told t h n)) && nat_le (limit t) (age h n)) k
 
@@ -139,7 +141,7 @@ module _ (t : Terms) (jobs : List Job) (w : 0 < t.wait) (r : 0 < t.tries) (laws 
     none_is None e = refl
     none_is (Some x) e = true_false (sym e)
 
-    aged_at_most : (part : List Outgoing) (n : List ℕ) → age (Then h e part) n ≤ age h n + 1
+    aged_at_most : (part : List Outgoing) (n : Name) → age (Then h e part) n ≤ age h n + 1
     aged_at_most part n = go (was_sent (Then h e part) n) refl
       where
         beat_at_most : (b : Bool) → cond b 1 0 ≤ 1
@@ -159,7 +161,7 @@ module _ (t : Terms) (jobs : List Job) (w : 0 < t.wait) (r : 0 < t.tries) (laws 
         p : Unsent (questions h) now.fresh now.again sent k
         p = unsent (questions h) now.fresh now.again sent k now.out low
 
-        n : List ℕ
+        n : Name
         n = p.next.name
 
         T : Turns
@@ -199,7 +201,7 @@ module _ (t : Terms) (jobs : List Job) (w : 0 < t.wait) (r : 0 < t.tries) (laws 
         p : Unsent [] now.fresh now.again sent k
         p = unsent [] now.fresh now.again sent k now.out low
 
-        n : List ℕ
+        n : Name
         n = p.next.name
 
         T : Turns

@@ -1,7 +1,7 @@
 -- What is polled for.
 use Rattle.std.specs.Prelude.{◌≡◌, ℕ, ◌<◌, IsTrue, Some, List}
 use Rattle.std.specs.List.{All}
-use Rattle.pac_names.specs.Names.{is_lookup_name}
+use Rattle.pac_names.specs.Names.{is_lookup_name, Name}
 use Rattle.pac_ports.specs.declared.link.Servers.{Servers}
 use Rattle.poll_log.specs.declared.terms.Terms.{Terms}
 use Rattle.poll_log.specs.Turns.{Outgoing, Turns, with_sent}
@@ -25,7 +25,7 @@ pub record Talk : Type 0 where
 
 -- the job lacks lookup names alone
 abbrev pub AsksLookupNames : Job → Type 0
-AsksLookupNames job = (answers : Map) (n : List ℕ) → job answers ≡ Some n → IsTrue (is_lookup_name n)
+AsksLookupNames job = (answers : Map) (n : Name) → job answers ≡ Some n → IsTrue (is_lookup_name n)
 
 -- terms that ask and end
 pub record AreFinite (terms : Terms) : Type 0 where

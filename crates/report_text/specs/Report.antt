@@ -3,7 +3,9 @@ use Rattle.std.specs.Prelude.{ℕ, ◌+◌, ℤ, List, [], ◌∷◌, ◌++◌, 
 use Rattle.std.specs.Fmt.{decimal}
 use Rattle.utf16_text.specs.Escape.{escaped}
 use Rattle.js_tree.specs.declared.place.Place.{Place}
-use Rattle.js_host.specs.Answers.{Name}
+use Rattle.pac_names.specs.Names.{Name}
+use Rattle.pac_names.specs.declared.kind.NameKind.{NameKind}
+use Rattle.pac_names.specs.declared.kind.NameKind.TheVariants.{V4, V6}
 use Rattle.js_evaluation.specs.declared.fault.Fault.{Fault}
 use Rattle.js_evaluation.specs.declared.fault.FaultCode.{FaultCode}
 use Rattle.js_evaluation.specs.declared.fault.FaultCode.TheVariants as code
@@ -73,10 +75,18 @@ ending_line (Fails fault) = line (codes "fault " ++ fault_text fault)
 abbrev pub alert_line : List ℕ → List ℕ
 alert_line text = line (codes "alert " ++ escaped false text)
 
+-- the type of the addresses that a name asks for (RFC 3596, section 2.1); of IPv4 nothing is said
+abbrev pub type_text : NameKind → List ℕ
+type_text V4 = []
+type_text V6 = codes " AAAA"
+
+abbrev pub unanswered_text : Name → List ℕ
+unanswered_text name = name.text ++ type_text name.kind
+
 -- the alerts that are kept, and how the run ended; of a name that stayed unanswered, no alert
 abbrev pub end_lines : End → List ℕ
 end_lines (done outcome) = flat_map alert_line outcome.alerts ++ ending_line outcome.ending
-end_lines (unanswered name) = line (codes "unanswered " ++ name)
+end_lines (unanswered name) = line (codes "unanswered " ++ unanswered_text name)
 
 abbrev pub url_line : ℕ → List ℕ → List ℕ
 url_line number url = line (codes "url " ++ decimal number ++ codes " " ++ escaped false url)

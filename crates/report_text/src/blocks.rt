@@ -13,7 +13,7 @@ use crate::fault::{fault_name, has_detail};
 use bad_proxy_table::BadTable;
 use batch_text::{Batch, BatchLine};
 use js_interp::{Ending, Fault, Outcome};
-use pac_names::LookupName;
+use pac_names::{LookupName, NameKind};
 use proxy_list::{Proxy, ProxyList, parse_list, write_entry};
 use std::alloc::Global;
 use utf16_text::{Memory, Text};
@@ -23,7 +23,7 @@ use utf16_text::{Memory, Text};
 pub enum End {
     /// Its run came to an end.
     Done(Outcome),
-    /// This name stayed unanswered.
+    /// This name stayed unanswered, of which the addresses of one family are asked.
     Unanswered(LookupName),
 }
 
@@ -166,7 +166,9 @@ fn write_end<'a>(alloc: Global, out: &mut Draft<'a>, end: &'a End) -> Result<(),
 {
     match end {
         End::Done(outcome) => write_outcome(alloc, out, outcome),
-        End::Unanswered(name) => write_line(out, b"unanswered ", name.bytes()),
+        End::Unanswered(name) => {
+            write_line(out, b"unanswered ", name.bytes(), type_text(name.kind()))
+        }
     }
 }
 
@@ -195,13 +197,29 @@ fn write_alerts<'a>(out: &mut Draft<'a>, alerts: &'a [Text]) -> Result<(), Memor
     Ok(())
 }
 
-/// A line of a word and more bytes.
-fn write_line<'a>(out: &mut Draft<'a>, word: &'a [u8], bytes: &'a [u8]) -> Result<(), Memory>
-    ensures { OnOk result (out.new ≡ out.old ++ spec.line (word.now ++ bytes.now)) }
+/// A line of a word and more bytes, and what stands behind them.
+fn write_line<'a>(
+    out: &mut Draft<'a>,
+    word: &'a [u8],
+    bytes: &'a [u8],
+    behind: &'a [u8],
+) -> Result<(), Memory>
+    ensures { OnOk result (out.new ≡ out.old ++ spec.line (word.now ++ bytes.now ++ behind.now)) }
 {
     out.bytes(word)?;
     out.bytes(bytes)?;
+    out.bytes(behind)?;
     out.bytes(b"\n")
+}
+
+/// The type of the addresses that a name asks for (RFC 3596, section 2.1). Of IPv4 nothing is said.
+fn type_text(kind: NameKind) -> &'static [u8]
+    ensures { result.now ≡ spec.type_text kind }
+{
+    match kind {
+        NameKind::V4 => b"",
+        NameKind::V6 => b" AAAA",
+    }
 }
 
 /// A line of a word and a text.

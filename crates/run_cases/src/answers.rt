@@ -2,7 +2,7 @@
 use anyhow::{Result, bail};
 use case_rows::written_text;
 use js_interp::{Ending, Fault, Outcome, RunAnswer};
-use pac_names::LookupName;
+use pac_names::{LookupName, NameKind};
 use std::alloc::Global;
 use utf16_text::Text;
 
@@ -12,7 +12,8 @@ pub(crate) fn written(alloc: Global, answer: &RunAnswer, asked: &[LookupName]) -
     match answer {
         RunAnswer::Done(outcome) => written_outcome(alloc, &outcome.copy(alloc)?, asked),
         RunAnswer::Missing(name) => {
-            let mut told = format!(in alloc; "missing {}", name_text(name)?)?;
+            let mut told = format!(in alloc; "missing ")?;
+            tell_name(name, &mut told)?;
             tell_names(asked, &mut told)?;
             Ok(told)
         }
@@ -64,14 +65,19 @@ fn fault_line(alloc: Global, fault: &Fault) -> Result<String> {
     Ok(format!(in alloc; "{code:?} at {place} {detail}")?)
 }
 
-pub(crate) fn name_text(name: &LookupName) -> Result<&str> {
-    Ok(std::str::from_utf8(name.bytes())?)
+/// A name, with its type where it asks for IPv6 addresses.
+pub(crate) fn tell_name(name: &LookupName, told: &mut String) -> Result<()> {
+    told.push_str(std::str::from_utf8(name.bytes())?)?;
+    if name.kind() == NameKind::V6 {
+        told.push_str(" AAAA")?;
+    }
+    Ok(())
 }
 
 fn tell_names(asked: &[LookupName], told: &mut String) -> Result<()> {
     for name in asked {
         told.push_str(", asked ")?;
-        told.push_str(name_text(name)?)?;
+        tell_name(name, told)?;
     }
     Ok(())
 }

@@ -1,5 +1,5 @@
 // The calls of its host that a run makes, one after another.
-use crate::answers::name_text;
+use crate::answers::tell_name;
 use answer_table::AnswerTable;
 use anyhow::{Context, Result, ensure};
 use case_rows::written_text;
@@ -64,7 +64,7 @@ fn tell_call(alloc: Global, call: &Call, told: &mut String) -> Result<()> {
     match call {
         Call::Lookup(name) => {
             told.push_str("lookup ")?;
-            told.push_str(name_text(name)?)?;
+            tell_name(name, told)?;
         }
         Call::Alert(text) => {
             told.push_str("alert ")?;

@@ -3,12 +3,12 @@ use Rattle.std.proofs.Common.{◌≡◌, refl, ap, sym, ◌∙◌, subst, List, 
 use Rattle.std.specs.Prelude.{unwrap_or, is_none}
 use Rattle.std.specs.FinMap as map
 use Rattle.std.specs.List.{All}
-use Rattle.std.specs.Str.{bytes_eq}
 use Rattle.std.proofs.lemmas.List.Elements.{All-head, All-tail, All-cons}
-use Rattle.std.proofs.lemmas.Slice.Eq.{bytes_eq-Decides}
 use Rattle.pac_names.specs.declared.answer.Answer.{Answer}
 use Rattle.pac_names.specs.declared.answer.Answer.TheVariants.{NoAddress}
-use Rattle.js_host.specs.Answers.{Name, AnswerMap, Extends, answer_in, known_answer, or_no_address, first_missing, partly}
+use Rattle.pac_names.specs.Names.{Name}
+use Rattle.pac_names.specs.Comparing.{same_name, one_name}
+use Rattle.js_host.specs.Answers.{AnswerMap, Extends, answer_in, known_answer, or_no_address, first_missing, partly}
 use Rattle.js_host.specs.Seen.{Answered, Refused, was_asked, with_name, is_one_too_many}
 use Rattle.run_trees.specs.RunTree.{RunTree, Done, Ask, Tell}
 use Rattle.run_trees.specs.WholeRun.{rest_of_run, reply_of, asked_with, after_alert}
@@ -32,8 +32,8 @@ All-last P (x ∷ xs) name all = All-last P xs name (All-tail P x (xs ++ name �
 All-asked : (P : Name → Type 0) (xs : List Name) (name : Name) → was_asked xs name ≡ true → All P xs → P name
 All-asked P [] name here all = cc
 All-asked P (x ∷ xs) name here all =
-    elim (bytes_eq name x) as (λ b. bytes_eq name x ≡ b → (b || was_asked xs name) ≡ true → P name) [
-      | true ↦ λ same _. subst P (sym ((bytes_eq-Decides name x).0 same)) (All-head P x xs all)
+    elim (same_name name x) as (λ b. same_name name x ≡ b → (b || was_asked xs name) ≡ true → P name) [
+      | true ↦ λ same _. subst P (sym ((one_name name x).0 same)) (All-head P x xs all)
       | false ↦ λ apart others. All-asked P xs name others (All-tail P x xs all)
     ] refl here
 

@@ -1,6 +1,6 @@
 -- Each word makes parts that have one end.
 use Rattle.std.proofs.Common.{◌≡◌, ℕ, List, refl, ◌∙◌, Bool, true, false, if◌then◌else◌, Result, Ok, Err}
-use Rattle.js_host.specs.Answers.{Name}
+use Rattle.pac_names.specs.Names.{Name}
 use Rattle.js_host.specs.Seen.{Reply, Lookup, Replies, Lacks, looked_up, alerted}
 use Rattle.run_trees.specs.declared.abrupt.Abrupt.{Abrupt}
 use Rattle.run_trees.specs.declared.abrupt.Abrupt.TheVariants.{Thrown, Returned, Broken, Continued}

@@ -4,13 +4,14 @@ use Rattle.std.specs.Prelude.{nat_le}
 use Rattle.std.specs.List.{IsDistinct}
 use Rattle.std.proofs.lemmas.Bool.{leb-false}
 use Rattle.std.proofs.lemmas.Map.Keys.{IsDistinct-push}
-use Rattle.utf16_text.specs.Comparing.{numbers_equal}
-use Rattle.js_host.specs.Answers.{Name, AnswerMap}
+use Rattle.pac_names.specs.Names.{Name}
+use Rattle.js_host.specs.Answers.{AnswerMap}
 use Rattle.js_host.specs.Seen.{was_asked}
 use Rattle.run_trees.specs.RunTree.{RunTree, Done, Ask, Tell}
 use Rattle.run_trees.specs.WholeRun.{rest_of_run, reply_of, asked_with}
 use Rattle.run_trees.specs.Laws.{AreFew}
 use Rattle.pac_names.specs.declared.limits.TheConstants.{MOST_NAMES}
+use Rattle.pac_names.specs.Comparing.{names_equal}
 
 few_by : (asked : List Name) (name : Name) → AreFew asked → (many : Bool) → nat_le MOST_NAMES (length asked) ≡ many
     → (was : Bool) → was_asked asked name ≡ was
@@ -21,7 +22,7 @@ few_by asked name few false m true w = few
 few_by asked name few false m false w =
     let room : length asked < MOST_NAMES = leb-false MOST_NAMES (length asked) m in
     record {
-      distinct = IsDistinct-push numbers_equal asked name few.distinct w;
+      distinct = IsDistinct-push names_equal asked name few.distinct w;
       few = rw (length-append asked (name ∷ [])) (omega arith);
     }
 

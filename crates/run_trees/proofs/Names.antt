@@ -2,12 +2,12 @@
 use Rattle.std.proofs.Common.{◌≡◌, refl, ap, sym, ◌∙◌, List, [], ◌∷◌, ◌++◌, Bool, true, false, cond, ◌||◌, if◌then◌else◌, Option, Some, None}
 use Rattle.std.specs.Prelude.{is_none}
 use Rattle.std.specs.Option.{option_or}
-use Rattle.std.specs.Str.{bytes_eq}
 use Rattle.std.proofs.lemmas.List.Folds.{find-append}
-use Rattle.std.proofs.lemmas.Slice.Eq.{bytes_eq-Decides}
 use Rattle.std.specs.FinMap as map
 use Rattle.pac_names.specs.declared.answer.Answer.{Answer}
-use Rattle.js_host.specs.Answers.{Name, AnswerMap, Knowledge, known_answer, or_no_address, first_missing, wholly}
+use Rattle.pac_names.specs.Names.{Name}
+use Rattle.pac_names.specs.Comparing.{same_name, one_name}
+use Rattle.js_host.specs.Answers.{AnswerMap, Knowledge, known_answer, or_no_address, first_missing, wholly}
 use Rattle.js_host.specs.Seen.{was_asked, with_name}
 use Rattle.run_trees.specs.WholeRun.{names_to}
 
@@ -62,9 +62,9 @@ pub was_asked-missing : (known : Knowledge) (xs : List Name) (name : Name) → f
 was_asked-missing known [] name none missing = refl
 was_asked-missing known (x ∷ xs) name none missing =
     let parts = none_in_front (lacks known x) x (first_missing known xs) none in
-    elim (bytes_eq name x) as (λ b. bytes_eq name x ≡ b → (b || was_asked xs name) ≡ false) [
+    elim (same_name name x) as (λ b. same_name name x ≡ b → (b || was_asked xs name) ≡ false) [
       | true ↦ λ same.
-          let here : lacks known name ≡ lacks known x = ap (lacks known) ((bytes_eq-Decides name x).0 same) in
+          let here : lacks known name ≡ lacks known x = ap (lacks known) ((one_name name x).0 same) in
           let wrong : true ≡ false = sym missing ∙ here ∙ parts.0 in
           cc
       | false ↦ λ apart. was_asked-missing known xs name parts.1 missing
@@ -73,9 +73,9 @@ was_asked-missing known (x ∷ xs) name none missing =
 -- the names up to a name that is not among those in front
 pub names_to-append : (xs ys : List Name) (name : Name) → was_asked xs name ≡ false
     → names_to name (xs ++ name ∷ ys) ≡ xs ++ name ∷ []
-names_to-append [] ys name new = rw ((bytes_eq-Decides name name).1 refl) refl
+names_to-append [] ys name new = rw ((one_name name name).1 refl) refl
 names_to-append (x ∷ xs) ys name new =
-    elim (bytes_eq name x) as (λ b. (b || was_asked xs name) ≡ false → (if b then x ∷ [] else x ∷ names_to name (xs ++ name ∷ ys)) ≡ x ∷ (xs ++ name ∷ [])) [
+    elim (same_name name x) as (λ b. (b || was_asked xs name) ≡ false → (if b then x ∷ [] else x ∷ names_to name (xs ++ name ∷ ys)) ≡ x ∷ (xs ++ name ∷ [])) [
       | true ↦ λ wrong. cc
       | false ↦ λ others. ap (λ rest. x ∷ rest) (names_to-append xs ys name others)
     ] new

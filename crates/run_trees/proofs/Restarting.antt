@@ -1,6 +1,7 @@
 -- The restart theorem and the extension law, from what a run over a host says.
 use Rattle.std.proofs.Common.{◌≡◌, refl, ap, sym, ◌∙◌, subst, [], Some, None}
-use Rattle.js_host.specs.Answers.{Name, AnswerMap, Extends, Knowledge, Completes, first_missing, partly}
+use Rattle.pac_names.specs.Names.{Name}
+use Rattle.js_host.specs.Answers.{AnswerMap, Extends, Knowledge, Completes, first_missing, partly}
 use Rattle.js_host.specs.Seen.{fresh}
 use Rattle.run_trees.specs.RunTree.{RunTree, Walked, Ended, Stopped, walk}
 use Rattle.run_trees.specs.WholeRun.{whole_run, names_to}

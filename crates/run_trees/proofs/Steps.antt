@@ -1,6 +1,6 @@
 -- The steps of a run over a host.
 use Rattle.std.proofs.Common.{◌≡◌, ℕ, List, refl, ap}
-use Rattle.js_host.specs.Answers.{Name}
+use Rattle.pac_names.specs.Names.{Name}
 use Rattle.js_host.specs.Seen.{Seen, Reply, Replies, Lacks, looked_up, alerted}
 use Rattle.run_trees.specs.RunTree.{RunTree, Done, Ask, Tell, Ended, Stopped, with_lookup, walk}
 use Rattle.run_trees.specs.Laws.{WalksByStep}

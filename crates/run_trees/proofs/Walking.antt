@@ -4,7 +4,8 @@ use Rattle.std.specs.Prelude.{unwrap_or, is_none}
 use Rattle.std.specs.FinMap as map
 use Rattle.pac_names.specs.declared.answer.Answer.{Answer}
 use Rattle.pac_names.specs.declared.answer.Answer.TheVariants.{NoAddress}
-use Rattle.js_host.specs.Answers.{Name, AnswerMap, Knowledge, Completes, answer_in, known_answer, or_no_address, first_missing}
+use Rattle.pac_names.specs.Names.{Name}
+use Rattle.js_host.specs.Answers.{AnswerMap, Knowledge, Completes, answer_in, known_answer, or_no_address, first_missing}
 use Rattle.js_host.specs.Seen.{Seen, Reply, Answered, Refused, Replies, was_asked, with_name, is_one_too_many, lookup_by, with_alert, kept_alerts}
 use Rattle.run_trees.specs.RunTree.{RunTree, Done, Ask, Tell, Walked, Ended, Stopped, with_lookup, walk}
 use Rattle.run_trees.specs.WholeRun.{WholeRun, rest_of_run, reply_of, asked_with, names_to, after_alert}

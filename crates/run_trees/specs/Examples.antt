@@ -1,9 +1,10 @@
 -- Worked examples, by computation.
 use Rattle.std.specs.Prelude.{◌≡◌, ℕ, List, [], ◌∷◌, true, false, Ok, Err, codes, refl}
-use Rattle.std.specs.Ordering.{nat_cmp}
-use Rattle.std.specs.Cmp.Lexicographic.{slice_cmp}
 use Rattle.std.specs.FinMap as map
-use Rattle.js_host.specs.Answers.{Name, AnswerMap, partly}
+use Rattle.pac_names.specs.declared.kind.NameKind.TheVariants.{V4, V6}
+use Rattle.pac_names.specs.Names.{Name}
+use Rattle.pac_names.specs.Comparing.{compare_names}
+use Rattle.js_host.specs.Answers.{AnswerMap, partly}
 use Rattle.js_host.specs.Seen.{Reply, fresh}
 use Rattle.run_trees.specs.declared.abrupt.Abrupt.{Abrupt}
 use Rattle.run_trees.specs.declared.abrupt.Abrupt.TheVariants.{Thrown, Returned, Broken, Continued}
@@ -14,10 +15,14 @@ use Rattle.run_trees.specs.Runs.{After, Run, pure, abrupt, halt, ◌>>=◌, look
 -- ---- `alert("a"); dnsResolve("x.example"); alert("b"); dnsResolve("y.example"); return "DIRECT";`
 
 abbrev x : Name
-x = codes "x.example"
+x = record { kind = V4; text = codes "x.example" }
 
 abbrev y : Name
-y = codes "y.example"
+y = record { kind = V4; text = codes "y.example" }
+
+-- the IPv6 name of the same text
+abbrev z : Name
+z = record { kind = V6; text = codes "y.example" }
 
 abbrev run : RunTree (List ℕ)
 run = Tell (codes "a") (Ask x (λ _. Tell (codes "b") (Ask y (λ _. Done (codes "DIRECT")))))
@@ -29,7 +34,7 @@ nothing = map.empty
 pub stops_first : walk run (fresh (partly nothing))
     ≡ Stopped x (record { known = partly nothing; asked = x ∷ []; alerts = codes "a" ∷ [] })
 unfolding walk
-stops_first = rw (map.get-empty (slice_cmp nat_cmp) x) refl
+stops_first = rw (map.get-empty compare_names x) refl
 
 -- the whole run asks both names and tells both texts
 pub asks_both :
@@ -38,7 +43,7 @@ unfolding rest_of_run
 asks_both = refl
 
 -- the names up to one, which stands twice
-pub up_to_the_first : names_to y (x ∷ y ∷ codes "c" ∷ y ∷ []) ≡ x ∷ y ∷ []
+pub up_to_the_first : names_to y (x ∷ y ∷ z ∷ y ∷ []) ≡ x ∷ y ∷ []
 up_to_the_first = refl
 
 -- ---- the words of runs
@@ -102,4 +107,4 @@ module _ (State Cause Value Target End : Type 0) where
       → walk (catching (look_up x >>= next) handler after state) (fresh (partly nothing))
       ≡ Stopped x (record { known = partly nothing; asked = x ∷ []; alerts = [] })
   unfolding walk
-  no_handler_sees_a_missing_name next handler after state = rw (map.get-empty (slice_cmp nat_cmp) x) refl
+  no_handler_sees_a_missing_name next handler after state = rw (map.get-empty compare_names x) refl

@@ -1,16 +1,17 @@
 -- The laws of runs: the extension law, and what a run over a host says of the whole run.
 use Rattle.std.specs.Prelude.{◌≡◌, ◌≤◌, ℕ, List, length, Option, Some, None}
 use Rattle.std.specs.List.{All, IsDistinct}
-use Rattle.std.specs.Str.{bytes_eq}
-use Rattle.js_host.specs.Answers.{Name, AnswerMap, Extends, Knowledge, Completes, answer_in, first_missing, partly, wholly}
+use Rattle.pac_names.specs.Names.{Name}
+use Rattle.js_host.specs.Answers.{AnswerMap, Extends, Knowledge, Completes, answer_in, first_missing, partly, wholly}
 use Rattle.js_host.specs.Seen.{Seen, Reply, Replies, Lacks, looked_up, alerted, kept_alerts, fresh}
 use Rattle.run_trees.specs.RunTree.{RunTree, Done, Ask, Tell, Walked, Ended, Stopped, walk}
 use Rattle.run_trees.specs.WholeRun.{asked_names, names_to, whole_run}
 use Rattle.pac_names.specs.declared.limits.TheConstants.{MOST_NAMES}
+use Rattle.pac_names.specs.Comparing.{same_name}
 
 -- distinct names, of which a run may ask so many
 pub record AreFew (names : List Name) : Type 0 where
-  pub distinct : IsDistinct bytes_eq names
+  pub distinct : IsDistinct same_name names
   pub few : length names ≤ MOST_NAMES
 
 -- The names that a run asks are distinct, and at most as many as it may ask.

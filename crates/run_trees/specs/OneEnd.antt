@@ -1,6 +1,6 @@
 -- Nothing is hidden in what comes after a part: each part comes to one end, whatever comes after it.
 use Rattle.std.specs.Prelude.{◌≡◌, List, ℕ, Bool, Result}
-use Rattle.js_host.specs.Answers.{Name}
+use Rattle.pac_names.specs.Names.{Name}
 use Rattle.js_host.specs.Seen.{Seen}
 use Rattle.run_trees.specs.declared.abrupt.Abrupt.{Abrupt}
 use Rattle.run_trees.specs.RunTree.{Walked, Ended, Stopped, walk}

@@ -1,7 +1,7 @@
 -- A run as a tree of what it asks of its host. The tree knows no host and no answers: it says how the run goes on with
 -- each.
 use Rattle.std.specs.Prelude.{ℕ, List}
-use Rattle.js_host.specs.Answers.{Name}
+use Rattle.pac_names.specs.Names.{Name}
 use Rattle.js_host.specs.Seen.{Seen, Reply, Lookup, Replies, Lacks, looked_up, alerted}
 
 -- A run is at its end, or it asks for a name and goes on with the reply, or it tells the host a text and goes on.

@@ -2,7 +2,7 @@
 -- the state of the run, `End` how a whole run ends. An abrupt end passes what would come next (ECMA-262 5.1, section
 -- 8.9).
 use Rattle.std.specs.Prelude.{ℕ, List, Bool, if◌then◌else◌, Result, Ok, Err}
-use Rattle.js_host.specs.Answers.{Name}
+use Rattle.pac_names.specs.Names.{Name}
 use Rattle.js_host.specs.Seen.{Reply}
 use Rattle.run_trees.specs.declared.abrupt.Abrupt.{Abrupt}
 use Rattle.run_trees.specs.declared.abrupt.Abrupt.TheVariants.{Thrown, Returned, Broken, Continued}

@@ -1,7 +1,8 @@
 -- A run against a map of all names. Nothing interrupts it.
 use Rattle.std.specs.Prelude.{ℕ, List, [], ◌∷◌, if◌then◌else◌}
-use Rattle.std.specs.Str.{bytes_eq}
-use Rattle.js_host.specs.Answers.{Name, AnswerMap, answer_in}
+use Rattle.pac_names.specs.Names.{Name}
+use Rattle.pac_names.specs.Comparing.{same_name}
+use Rattle.js_host.specs.Answers.{AnswerMap, answer_in}
 use Rattle.js_host.specs.Seen.{Reply, Answered, Refused, is_one_too_many, with_name}
 use Rattle.run_trees.specs.RunTree.{RunTree, Done, Ask, Tell}
 
@@ -41,4 +42,4 @@ asked_names answers run = (whole_run answers run).asked
 -- the names up to and including the first that is this one
 abbrev pub names_to : Name → List Name → List Name
 names_to name [] = []
-names_to name (first ∷ others) = if bytes_eq name first then first ∷ [] else first ∷ names_to name others
+names_to name (first ∷ others) = if same_name name first then first ∷ [] else first ∷ names_to name others

@@ -7,7 +7,7 @@ use Rattle.std.proofs.lemmas.Bool.{eqb-false, eqb-true}
 use Rattle.std.proofs.lemmas.List.{get_or_default, length-set, take_all, take_more}
 use Rattle.std.proofs.lemmas.List.Elements.{All-append, All-nil, filter_map-append}
 use Rattle.pac_ports.specs.Dice.{DiceTold}
-use Rattle.js_host.specs.Answers.{Name}
+use Rattle.pac_names.specs.Names.{Name}
 use Rattle.run_trees.specs.RunTree.{RunTree}
 use Rattle.poll_log.specs.declared.question.Question.{Question}
 use Rattle.poll_log.specs.Questions.{IsQuestion, names_of}

@@ -1,18 +1,18 @@
 -- What is told and known after an event, before anything is sent.
 use Rattle.std.proofs.Common.{◌≡◌, ℕ, ◌<◌, Bool, true, false, cond, ◌||◌, ◌&&◌, not, List, [], ◌∷◌, Option, Some, None, is_some, is_none, refl, sym, ◌∙◌, ap, subst, nat_lt, nat_le}
 use Rattle.std.specs.FinMap as map
-use Rattle.std.specs.Ordering.{eq_by_cmp, nat_cmp}
-use Rattle.std.specs.Cmp.Lexicographic.{slice_cmp}
+use Rattle.std.specs.Ordering.{eq_by_cmp}
 use Rattle.std.specs.List.{list_any}
 use mathlib.Core.Path.{fun_ext}
 use Rattle.pac_names.specs.declared.answer.Answer.{Answer}
-use Rattle.utf16_text.specs.Comparing.{numbers_tie, numbers_total}
-use Rattle.js_host.specs.Answers.{Name, AnswerMap}
+use Rattle.pac_names.specs.Names.{Name}
+use Rattle.pac_names.specs.Comparing.{same_name, compare_names, names_total, names_tie}
+use Rattle.js_host.specs.Answers.{AnswerMap}
 use Rattle.poll_log.specs.declared.flight.Flight.{Flight}
 use Rattle.poll_log.specs.declared.question.Question.{Question}
 use Rattle.poll_log.specs.declared.terms.Terms.{Terms}
 use Rattle.poll_log.specs.Turns.{Turns, Then, Event, Given, Tick}
-use Rattle.poll_log.specs.Questions.{firsts, has_name, names_of, same_name}
+use Rattle.poll_log.specs.Questions.{firsts, has_name, names_of}
 use Rattle.poll_log.specs.Sendings.{limit}
 use Rattle.poll_log.specs.Told.{Map, accepted, accepted_in, age, or_else, told}
 use Rattle.poll_log.specs.Moment.{dead_in, flies, flight_at, flights_in}
@@ -94,26 +94,26 @@ or_else_none (Some x) = refl
 keeps : (table : AnswerMap) (name n : Name) (answer x : Answer) → map.get table n ≡ Some x → map.get (with_answer name answer table) n ≡ Some x
 keeps table name n answer x e = go (map.get table name) refl
   where
-    apart : map.get table name ≡ None → eq_by_cmp (slice_cmp nat_cmp) n name ≡ false
+    apart : map.get table name ≡ None → eq_by_cmp compare_names n name ≡ false
     apart u = off (same_name n name) refl
       where
-        off : (b : Bool) → same_name n name ≡ b → eq_by_cmp (slice_cmp nat_cmp) n name ≡ false
+        off : (b : Bool) → same_name n name ≡ b → eq_by_cmp compare_names n name ≡ false
         off true same = none_some x (sym u ∙ ap (map.get table) (sym (same_is _ _ same)) ∙ e)
-        off false d = sym (numbers_tie n name) ∙ d
+        off false d = sym (names_tie n name) ∙ d
 
     go : (r : Option Answer) → map.get table name ≡ r → map.get (cond (is_some r) table (map.insert table name answer)) n ≡ Some x
     go (Some y) u = e
     go None u =
-        map.get-insert numbers_total table name answer n
+        map.get-insert names_total table name answer n
         ∙ ap (λ b. cond b (Some answer) (map.get table n)) (apart u)
         ∙ e
 
 puts : (table : AnswerMap) (name n : Name) (answer : Answer) → map.get table name ≡ None → map.get table n ≡ None → map.get (with_answer name answer table) n ≡ cond (same_name n name) (Some answer) None
 puts table name n answer u v =
     ap (λ r. map.get (cond (is_some r) table (map.insert table name answer)) n) u
-    ∙ map.get-insert numbers_total table name answer n
-    ∙ ap (λ r. cond (eq_by_cmp (slice_cmp nat_cmp) n name) (Some answer) r) v
-    ∙ ap (λ b. cond b (Some answer) None) (sym (numbers_tie n name))
+    ∙ map.get-insert names_total table name answer n
+    ∙ ap (λ r. cond (eq_by_cmp compare_names n name) (Some answer) r) v
+    ∙ ap (λ b. cond b (Some answer) None) (sym (names_tie n name))
 
 -- ---- what is found, if anything
 

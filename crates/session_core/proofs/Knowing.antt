@@ -3,10 +3,11 @@ use Rattle.std.proofs.Common.{◌≡◌, Bool, true, false, cond, ◌||◌, List
 use Rattle.std.specs.List.{cons_option, list_any}
 use Rattle.std.specs.Option.{option_to_list}
 use Rattle.std.proofs.lemmas.List.{map-append}
-use Rattle.js_host.specs.Answers.{Name}
+use Rattle.pac_names.specs.Names.{Name}
+use Rattle.pac_names.specs.Comparing.{same_name}
 use Rattle.poll_log.specs.declared.flight.Flight.{Flight}
 use Rattle.poll_log.specs.declared.question.Question.{Question}
-use Rattle.poll_log.specs.Questions.{names_of, same_name}
+use Rattle.poll_log.specs.Questions.{names_of}
 use Rattle.poll_log.specs.Told.{Map}
 use Rattle.poll_log.specs.Jobs.{once}
 use Rattle.poll_log.proofs.Names.{has, has-append, once-new, once-none, once-seen, or-assoc}

@@ -4,7 +4,8 @@ use Rattle.std.specs.FinMap as map
 use Rattle.std.specs.Option.{option_to_list}
 use Rattle.std.proofs.lemmas.List.Elements.{All-nil}
 use Rattle.pac_ports.specs.Dice.{DiceTold}
-use Rattle.js_host.specs.Answers.{Name, AnswerMap, Completes, partly}
+use Rattle.pac_names.specs.Names.{Name}
+use Rattle.js_host.specs.Answers.{AnswerMap, Completes, partly}
 use Rattle.js_host.specs.Seen.{Seen, kept_alerts}
 use Rattle.run_trees.specs.RunTree.{RunTree}
 use Rattle.run_trees.specs.WholeRun.{whole_run}

@@ -1,8 +1,6 @@
 -- What has begun stands for the log of the first sends, and what is said of sessions is what the log says.
 use Rattle.std.proofs.Common.{Bool, ◌≡◌, ℕ, ◌+◌, ◌<◌, true, false, List, [], ◌∷◌, get_or, length, map, Option, None, inl, refl, sym, ◌∙◌, ap, subst, arith, ◌≤◌}
 use Rattle.std.specs.FinMap as finite
-use Rattle.std.specs.Ordering.{nat_cmp}
-use Rattle.std.specs.Cmp.Lexicographic.{slice_cmp}
 use Rattle.std.specs.List.{All, cons_option}
 use Rattle.std.proofs.lemmas.List.{append-nil, get_or-map, length-map}
 use Rattle.std.proofs.lemmas.List.Elements.{All-cons, All-nil}
@@ -57,6 +55,7 @@ use Rattle.session_core.proofs.Knowing.{asking_terms, dead_still}
 use Rattle.session_core.proofs.Sent.{newly_sent}
 use Rattle.session_core.proofs.Turning.{dead_is, jobs_run, waits_is}
 use Rattle.pac_names.specs.declared.limits.TheConstants.{MOST_NAMES}
+use Rattle.pac_names.specs.Comparing.{compare_names}
 
 module _ {R Out End : Type 0} (gives : Out → End → List (List ℕ) → Type 0) (tree : R → RunTree End) where
   wanted_runs : (M : Map) (all : List R) → wanted (run_jobs tree all) M ≡ missing_of tree M all
@@ -82,7 +81,7 @@ module _ {R Out End : Type 0} (gives : Out → End → List (List ℕ) → Type 
     stub = asking_all asked (new_stub t)
 
     nothing : finite.get (new_lookups t).table ≡ told t (Begin sent)
-    nothing = fun_ext (λ n. finite.get-empty (slice_cmp nat_cmp) n ∙ sym (told-begin t sent n))
+    nothing = fun_ext (λ n. finite.get-empty compare_names n ∙ sym (told-begin t sent n))
 
     asks : names_of asked ≡ once [] (wanted jobs (told t (Begin sent)))
     asks = b.asks [] (λ n u. refl) ∙ ap (once []) (ap (λ M. missing_of tree M all) nothing ∙ sym (wanted_runs (told t (Begin sent)) all))

@@ -6,9 +6,10 @@ use Rattle.std.proofs.lemmas.Bool.Decides.{nat_tests}
 use Rattle.pac_names.specs.declared.answer.Answer.{Answer}
 use Rattle.dns_message.specs.Reply.{reply_of}
 use Rattle.dns_message.proofs.QueryLaws.{one_name_law}
-use Rattle.js_host.specs.Answers.{Name}
+use Rattle.pac_names.specs.Names.{Name}
+use Rattle.pac_names.specs.Comparing.{same_name}
 use Rattle.poll_log.specs.declared.question.Question.{Question}
-use Rattle.poll_log.specs.Questions.{has_name, number_in, same_name}
+use Rattle.poll_log.specs.Questions.{has_name, number_in}
 use Rattle.poll_log.specs.Told.{Map, accepted_in, reply_to}
 use Rattle.poll_log.specs.Moment.{flies, flight_at, flights_in}
 use Rattle.poll_log.proofs.Asking.{HasLookupName}

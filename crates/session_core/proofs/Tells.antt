@@ -3,9 +3,9 @@ use Rattle.std.proofs.Common.{◌≡◌, ℕ, ◌+◌, ◌-◌, ◌≤◌, ◌^�
 use Rattle.std.specs.Prelude.{min}
 use Rattle.std.specs.List.{All, cons_option}
 use Rattle.std.proofs.lemmas.List.Elements.{All-head, All-tail, All-weaker}
-use Rattle.js_host.specs.Answers.{Name}
+use Rattle.pac_names.specs.Names.{Name}
+use Rattle.pac_names.specs.Comparing.{same_name}
 use Rattle.run_trees.specs.RunTree.{RunTree}
-use Rattle.poll_log.specs.Questions.{same_name}
 use Rattle.poll_log.specs.Told.{Map}
 use Rattle.poll_log.specs.Jobs.{once, onto_new, told_to, wanted}
 use Rattle.poll_log.specs.Laws.{Extends}

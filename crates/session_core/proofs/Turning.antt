@@ -5,7 +5,7 @@ use Rattle.std.specs.List.{All, filter, filter_map, list_any}
 use Rattle.std.proofs.lemmas.List.{append-nil, get_or-map, length-map, take_all}
 use Rattle.std.proofs.lemmas.List.Elements.{All-append, All-filter, All-map, All-same, All-weaker}
 use mathlib.Core.Path.{fun_ext}
-use Rattle.js_host.specs.Answers.{Name}
+use Rattle.pac_names.specs.Names.{Name}
 use Rattle.run_trees.specs.RunTree.{RunTree}
 use Rattle.pac_ports.specs.Dice.{DiceTold}
 use Rattle.poll_log.specs.declared.question.Question.{Question}

@@ -2,7 +2,8 @@
 use Rattle.std.specs.Prelude.{Option, Some, None, is_some, List, if◌then◌else◌}
 use Rattle.std.specs.FinMap as map
 use Rattle.pac_names.specs.declared.answer.Answer.{Answer}
-use Rattle.js_host.specs.Answers.{Name, AnswerMap}
+use Rattle.pac_names.specs.Names.{Name}
+use Rattle.js_host.specs.Answers.{AnswerMap}
 use Rattle.poll_log.specs.declared.question.Question.{Question}
 use Rattle.poll_log.specs.declared.terms.Terms.{Terms}
 use Rattle.poll_log.specs.Turns.{Event, Given, Tick}

@@ -1,10 +1,11 @@
 -- What has become of sessions.
 use Rattle.std.specs.Prelude.{◌≡◌, ℕ, ◌+◌, ◌-◌, ◌^◌, Bool, true, false, min, Option, Some, None, List, [], ◌∷◌}
-use Rattle.js_host.specs.Answers.{Name, AnswerMap}
+use Rattle.pac_names.specs.Names.{Name}
+use Rattle.pac_names.specs.Comparing.{same_name}
+use Rattle.js_host.specs.Answers.{AnswerMap}
 use Rattle.js_host.specs.Seen.{kept_alerts}
 use Rattle.run_trees.specs.RunTree.{RunTree}
 use Rattle.run_trees.specs.WholeRun.{whole_run}
-use Rattle.poll_log.specs.Questions.{same_name}
 use Rattle.poll_log.specs.Told.{Map}
 use Rattle.stub_poller.specs.State.{StubState, is_dead_in}
 use Rattle.session_log.specs.Asked.{job_of}

@@ -3,7 +3,7 @@ use Rattle.std.specs.Prelude.{◌≡◌, ℕ, ◌||◌, Bool, if◌then◌else�
 use Rattle.std.specs.FinMap as finite
 use Rattle.std.specs.List.{All}
 use Rattle.std.specs.Option.{option_to_list}
-use Rattle.js_host.specs.Answers.{Name}
+use Rattle.pac_names.specs.Names.{Name}
 use Rattle.run_trees.specs.RunTree.{RunTree}
 use Rattle.pac_ports.specs.Dice.{DiceTold}
 use Rattle.poll_log.specs.declared.question.Question.{Question}

@@ -2,12 +2,11 @@
 use Rattle.std.proofs.Common.{◌≡◌, ◌+◌, ◌<◌, ◌≤◌, Bool, true, false, cond, not, ◌||◌, ◌&&◌, List, [], ◌∷◌, ◌++◌, length, Option, Some, None, refl, sym, ◌∙◌, ap, arith, length-append, append_assoc}
 use Rattle.std.specs.Prelude.{is_none, nat_le}
 use Rattle.std.specs.FinMap as map
-use Rattle.std.specs.Str.{bytes_eq}
 use Rattle.std.proofs.lemmas.Bool.{leb-false}
 use Rattle.std.proofs.lemmas.List.{append-nil}
-use Rattle.std.proofs.lemmas.Slice.Eq.{bytes_eq-Decides}
 use Rattle.pac_names.specs.declared.answer.Answer.{Answer}
-use Rattle.js_host.specs.Answers.{Name, AnswerMap, first_missing, or_no_address, partly}
+use Rattle.pac_names.specs.Names.{Name}
+use Rattle.js_host.specs.Answers.{AnswerMap, first_missing, or_no_address, partly}
 use Rattle.js_host.specs.Seen.{is_one_too_many, was_asked, with_name}
 use Rattle.run_trees.specs.RunTree.{RunTree, Done, Ask, Tell}
 use Rattle.run_trees.specs.WholeRun.{asked_names, asked_with, reply_of, rest_of_run}
@@ -17,6 +16,7 @@ use Rattle.poll_log.proofs.Names.{none_some}
 use Rattle.session_log.specs.Asked.{asked_from, asked_in, reply_in}
 use Rattle.session_log.specs.Laws.{LacksTheFirstMissing}
 use Rattle.pac_names.specs.declared.limits.TheConstants.{MOST_NAMES}
+use Rattle.pac_names.specs.Comparing.{same_name, one_name}
 
 -- ---- over a finite map
 
@@ -64,10 +64,10 @@ pub not_asked : (M : Map) (asked : List Name) (n : Name) → first_lacking asked
 not_asked M [] n held u = refl
 not_asked M (x ∷ asked) n held u =
     let p = held_parts M x asked held in
-    go (bytes_eq n x) refl p.0 (not_asked M asked n p.1 u)
+    go (same_name n x) refl p.0 (not_asked M asked n p.1 u)
   where
-    go : (b : Bool) → bytes_eq n x ≡ b → (y : Answer) × (M x ≡ Some y) → was_asked asked n ≡ false → (b || was_asked asked n) ≡ false
-    go true same h ih = none_some (h.0) (sym u ∙ ap M ((bytes_eq-Decides n x).0 same) ∙ h.1)
+    go : (b : Bool) → same_name n x ≡ b → (y : Answer) × (M x ≡ Some y) → was_asked asked n ≡ false → (b || was_asked asked n) ≡ false
+    go true same h ih = none_some (h.0) (sym u ∙ ap M ((one_name n x).0 same) ∙ h.1)
     go false apart h ih = ih
 
 -- with a name more that is held

@@ -1,23 +1,22 @@
 -- How sessions end.
 use Rattle.std.proofs.Common.{◌≡◌, ◌+◌, ◌≤◌, Bool, true, false, cond, not, ◌||◌, List, [], ◌∷◌, Option, Some, None, refl, sym, ◌∙◌, ap, subst, arith}
 use Rattle.std.specs.Prelude.{unwrap_or}
-use Rattle.std.specs.Ordering.{eq_by_cmp, nat_cmp}
-use Rattle.std.specs.Cmp.Lexicographic.{slice_cmp}
+use Rattle.std.specs.Ordering.{eq_by_cmp}
 use Rattle.std.specs.FinMap as map
 use Rattle.std.specs.List.{All}
 use Rattle.std.proofs.lemmas.List.Elements.{All-cons, All-head, All-nil, All-tail}
 use Rattle.std.proofs.lemmas.Cmp.{eq_by_cmp_equiv}
 use Rattle.pac_names.specs.declared.answer.Answer.{Answer}
 use Rattle.pac_names.specs.declared.answer.Answer.TheVariants.{NoAddress}
-use Rattle.utf16_text.specs.Comparing.{numbers_tie, numbers_total}
-use Rattle.js_host.specs.Answers.{Name, AnswerMap, answer_in}
+use Rattle.pac_names.specs.Names.{Name}
+use Rattle.js_host.specs.Answers.{AnswerMap, answer_in}
 use Rattle.run_trees.specs.RunTree.{RunTree}
 use Rattle.run_trees.specs.WholeRun.{asked_names, whole_run}
 use Rattle.run_trees.proofs.Answering.{rest-same}
 use Rattle.poll_log.specs.declared.question.Question.{Question}
 use Rattle.poll_log.specs.declared.terms.Terms.{Terms}
 use Rattle.poll_log.specs.Turns.{Turns}
-use Rattle.poll_log.specs.Questions.{firsts, has_name, same_name, was_sent}
+use Rattle.poll_log.specs.Questions.{firsts, has_name, was_sent}
 use Rattle.poll_log.specs.Told.{Map, is_dead, told}
 use Rattle.poll_log.specs.Jobs.{IsFinished, IsUnanswered, runs_of, waits_unless}
 use Rattle.poll_log.specs.Laws.{IsRestartableBy, first_lacking}
@@ -32,6 +31,7 @@ use Rattle.session_log.specs.Laws.{EndsStay, HasOneEnd, IsIsolated, RunsCostThei
 use Rattle.session_log.proofs.Asking.{asked_in-map, held_parts}
 use Rattle.session_log.proofs.Orders.{in_order, run_is_job}
 use Rattle.pac_names.specs.declared.limits.TheConstants.{MOST_NAMES}
+use Rattle.pac_names.specs.Comparing.{same_name, compare_names, names_total, names_tie}
 
 -- ---- what is told is a finite map
 
@@ -44,11 +44,11 @@ abbrev answers_to : Map → List Question → AnswerMap
 answers_to told [] = map.empty
 answers_to told (q ∷ qs) = with_answer q.name (told q.name) (answers_to told qs)
 
-flipped : (n m : Name) → eq_by_cmp (slice_cmp nat_cmp) n m ≡ same_name m n
-flipped n m = (eq_by_cmp_equiv numbers_total).symm n m ∙ sym (numbers_tie m n)
+flipped : (n m : Name) → eq_by_cmp compare_names n m ≡ same_name m n
+flipped n m = (eq_by_cmp_equiv names_total).symm n m ∙ sym (names_tie m n)
 
 answers_to-get : (told : Map) (qs : List Question) (n : Name) → map.get (answers_to told qs) n ≡ cond (has_name n qs) (told n) None
-answers_to-get told [] n = map.get-empty (slice_cmp nat_cmp) n
+answers_to-get told [] n = map.get-empty compare_names n
 answers_to-get told (q ∷ qs) n = go (told q.name) refl (same_name q.name n) refl (answers_to-get told qs n)
   where
     none : (b : Bool) → told n ≡ None → cond b (told n) None ≡ None
@@ -61,11 +61,11 @@ answers_to-get told (q ∷ qs) n = go (told q.name) refl (same_name q.name n) re
         ih ∙ none (has_name n qs) here ∙ sym here
     go None e false apart ih = ih
     go (Some x) e true same ih =
-        map.get-insert numbers_total (answers_to told qs) q.name x n
+        map.get-insert names_total (answers_to told qs) q.name x n
         ∙ ap (λ b. cond b (Some x) (map.get (answers_to told qs) n)) (flipped n q.name ∙ same)
         ∙ sym e ∙ ap told (same_is q.name n same)
     go (Some x) e false apart ih =
-        map.get-insert numbers_total (answers_to told qs) q.name x n
+        map.get-insert names_total (answers_to told qs) q.name x n
         ∙ ap (λ b. cond b (Some x) (map.get (answers_to told qs) n)) (flipped n q.name ∙ apart)
         ∙ ih
 

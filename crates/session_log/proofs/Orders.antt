@@ -3,7 +3,7 @@ use Rattle.std.proofs.Common.{◌≡◌, Bool, true, false, cond, List, [], ◌�
 use Rattle.std.specs.Prelude.{unwrap_or}
 use Rattle.pac_names.specs.declared.answer.Answer.{Answer}
 use Rattle.pac_names.specs.declared.answer.Answer.TheVariants.{NoAddress}
-use Rattle.js_host.specs.Answers.{Name}
+use Rattle.pac_names.specs.Names.{Name}
 use Rattle.js_host.specs.Seen.{Answered, Refused, is_one_too_many, with_name}
 use Rattle.run_trees.specs.RunTree.{RunTree, Done, Ask, Tell}
 use Rattle.poll_log.specs.Told.{Map}

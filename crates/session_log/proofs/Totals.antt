@@ -2,6 +2,7 @@
 use Rattle.std.proofs.Common.{◌≡◌, ℕ, ◌+◌, List, [], ◌∷◌, length, Option, Some, None, is_some, refl, ◌∙◌, ap, arith, cond}
 use Rattle.std.specs.List.{All}
 use Rattle.std.proofs.lemmas.List.Elements.{All-head, All-tail}
+use Rattle.pac_names.specs.Names.{Name}
 use Rattle.poll_log.specs.declared.terms.Terms.{Terms}
 use Rattle.poll_log.specs.Turns.{Outgoing, Turns, Begin, Then, with_sent}
 use Rattle.poll_log.specs.Told.{Map, told}
@@ -41,6 +42,6 @@ none_told most (job ∷ jobs) before after laws same =
     law : IsRestartable most job
     law = All-head (IsRestartable most) job jobs laws
 
-    one : (r : Option (List ℕ)) → job before ≡ r → told_to r after ≡ 0
+    one : (r : Option Name) → job before ≡ r → told_to r after ≡ 0
     one None e = refl
     one (Some n) e = ap (λ m. cond (is_some m) 1 0) (ap (λ m. m n) same ∙ law.lacks before n e)

@@ -1,7 +1,7 @@
 -- The names that a run asks, whatever answers them, and the first of them that the answers don't hold.
 use Rattle.std.specs.Prelude.{List, [], if◌then◌else◌, unwrap_or}
 use Rattle.pac_names.specs.declared.answer.Answer.TheVariants.{NoAddress}
-use Rattle.js_host.specs.Answers.{Name}
+use Rattle.pac_names.specs.Names.{Name}
 use Rattle.js_host.specs.Seen.{Reply, Answered, Refused, is_one_too_many}
 use Rattle.run_trees.specs.RunTree.{RunTree, Done, Ask, Tell}
 use Rattle.run_trees.specs.WholeRun.{asked_with}

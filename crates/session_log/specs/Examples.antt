@@ -5,7 +5,8 @@ use Rattle.std.proofs.Common.{lit<}
 use Rattle.std.proofs.lemmas.List.Elements.{All-nil, All-push}
 use Rattle.pac_names.specs.declared.answer.Answer.{Answer}
 use Rattle.pac_names.specs.declared.answer.Answer.TheVariants.{Address, NoAddress}
-use Rattle.js_host.specs.Answers.{Name}
+use Rattle.pac_names.specs.declared.kind.NameKind.TheVariants.{V4}
+use Rattle.pac_names.specs.Names.{Name}
 use Rattle.js_host.specs.Seen.{Reply}
 use Rattle.run_trees.specs.RunTree.{RunTree, Done, Ask}
 use Rattle.pac_ports.specs.declared.link.Move.{Move}
@@ -34,10 +35,10 @@ usual = record { wait = 10; tries = 4 }
 -- ---- names and datagrams
 
 abbrev pub a : Name
-a = codes "a.example"
+a = record { kind = V4; text = codes "a.example" }
 
 abbrev pub b : Name
-b = codes "b.example"
+b = record { kind = V4; text = codes "b.example" }
 
 abbrev pub question_a : Question
 question_a = record { id = 1; name = a }
@@ -189,9 +190,9 @@ without-runs = refl
 abbrev no_answers : Map
 no_answers n = None
 
-abbrev asks_so_many : ℕ → List ℕ → RunTree (List Reply)
+abbrev asks_so_many : ℕ → Name → RunTree (List Reply)
 asks_so_many zero name = Done []
-asks_so_many (suc n) name = Ask name (λ reply. asks_so_many n (97 ∷ name))
+asks_so_many (suc n) name = Ask name (λ reply. asks_so_many n (record name { text = 97 ∷ name.text }))
 
 pub thirty_two : length (asked_in (asks_so_many 32 a) no_answers) ≡ 32
 unfolding asked_from

@@ -2,7 +2,8 @@
 use Rattle.std.specs.Prelude.{◌≡◌, ◌+◌, ◌≤◌, List, ◌++◌, length, false}
 use Rattle.std.specs.FinMap as map
 use Rattle.std.specs.List.{All}
-use Rattle.js_host.specs.Answers.{Name, AnswerMap}
+use Rattle.pac_names.specs.Names.{Name}
+use Rattle.js_host.specs.Answers.{AnswerMap}
 use Rattle.run_trees.specs.RunTree.{RunTree}
 use Rattle.run_trees.specs.WholeRun.{asked_names, whole_run}
 use Rattle.run_trees.specs.Laws.{first_missing_of}

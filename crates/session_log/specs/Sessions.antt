@@ -1,7 +1,8 @@
 -- Many sessions over one log: what their runs cost, and how each of them ends.
 use Rattle.std.specs.Prelude.{◌≡◌, ℕ, ◌+◌, List, [], ◌∷◌}
 use Rattle.std.specs.FinMap as map
-use Rattle.js_host.specs.Answers.{Name, AnswerMap}
+use Rattle.pac_names.specs.Names.{Name}
+use Rattle.js_host.specs.Answers.{AnswerMap}
 use Rattle.run_trees.specs.RunTree.{RunTree}
 use Rattle.run_trees.specs.WholeRun.{WholeRun, whole_run}
 use Rattle.poll_log.specs.declared.terms.Terms.{Terms}

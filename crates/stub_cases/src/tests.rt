@@ -2,7 +2,7 @@
 ghost use Rattle.std.specs.Prelude.{◌+◌, ◌<◌, ◌≤◌, length};
 
 use dns_message::write_reply;
-use pac_names::{Answer, LookupName};
+use pac_names::{Answer, LookupName, NameKind};
 use pac_ports::Which;
 use std::alloc::{AllocError, Global};
 use std::test::Fail;
@@ -24,6 +24,17 @@ const TRUNCATED: [u8; 45] = [
 ];
 
 const ADDRESS: Answer = Answer::Address(0x5db8d822);
+
+// The reply to the question for the IPv6 addresses of example.com under the same number, with the address 2001:db8::1
+// (RFC 3596, section 2.2).
+const REPLY6: [u8; 57] = [
+    0x12, 0x34, 0x81, 0x80, 0x00, 0x01, 0x00, 0x01, 0x00, 0x00, 0x00, 0x00, 0x07, 0x65, 0x78, 0x61,
+    0x6d, 0x70, 0x6c, 0x65, 0x03, 0x63, 0x6f, 0x6d, 0x00, 0x00, 0x1c, 0x00, 0x01, 0xc0, 0x0c, 0x00,
+    0x1c, 0x00, 0x01, 0x00, 0x00, 0x00, 0x3c, 0x00, 0x10, 0x20, 0x01, 0x0d, 0xb8, 0x00, 0x00, 0x00,
+    0x00, 0x00, 0x00, 0x00, 0x00, 0x00, 0x00, 0x00, 0x01,
+];
+
+const ADDRESS6: Answer = Answer::Address6(0x2001_0db8_0000_0000_0000_0000_0000_0001);
 
 // A reply for www.example.com under the number 1: an address of web.example.com, and behind it the record that www is
 // an alias of web.
@@ -312,5 +323,26 @@ fn replies_in_any_order(rt: HostRuntime) -> Result<(), Fail> {
     let mut stub = asking(alloc, 1, 8, &[(b"www.example.com", 1)])?;
     let found = stub.on_datagram(&ALIAS).ok_or("a reply")?;
     assert_eq!(rt; found.1, Answer::Address(0x0a000005));
+    Ok(())
+}
+
+// Two questions for one text, one for each family of addresses, are two questions: each is answered by its own reply alone,
+// though both have one number.
+#[test]
+fn replies_of_either_kind(rt: HostRuntime) -> Result<(), Fail> {
+    let alloc = rt.alloc();
+    let example = name(b"example.com")?;
+    let mut stub = asking(alloc, 10, 4, &[(b"example.com", 0x1234)])?;
+    stub.ask(alloc, example.with_kind(NameKind::V6), 0x1234)?;
+    for (reply, kind, answer) in [
+        (REPLY6.as_slice(), NameKind::V6, ADDRESS6),
+        (REPLY.as_slice(), NameKind::V4, ADDRESS),
+    ] {
+        let found = stub.on_datagram(reply).ok_or("a reply")?;
+        assert!(rt; found.0 == example.with_kind(kind));
+        assert_eq!(rt; found.1, answer);
+        assert!(rt; stub.on_datagram(reply).is_none());
+    }
+    assert!(rt; stub.on_beat().resend.is_empty());
     Ok(())
 }

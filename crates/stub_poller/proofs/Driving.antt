@@ -3,6 +3,7 @@ use Rattle.std.proofs.Common.{◌≡◌, ℕ, ◌+◌, ◌<◌, Bool, true, fals
 use Rattle.std.proofs.lemmas.List.{append-nil}
 use mathlib.Core.Path.{fun_ext}
 use Rattle.pac_names.specs.declared.answer.Answer.{Answer}
+use Rattle.pac_names.specs.Names.{Name}
 use Rattle.poll_log.specs.declared.question.Question.{Question}
 use Rattle.poll_log.specs.declared.terms.Terms.{Terms}
 use Rattle.poll_log.specs.Turns.{Outgoing, Turns, Begin, Then, Event, Given, Tick}
@@ -20,7 +21,7 @@ use Rattle.stub_poller.specs.Driven.{DrivenShows, asking_all, beaten_if, driven,
 use Rattle.stub_poller.proofs.Showing.{asked_shows, beaten_shows, flights_nil, given_shows, older_age, older_none, told_by}
 
 -- names are asked, none of which was asked before or is told
-pub asked_all_show : (qs : List Question) (stub : StubState) (M : Map) (a : List ℕ → ℕ) (F : List Question) → Shows stub M a F → AllNew F qs → ((n : List ℕ) → has_name n F ≡ false → M n ≡ None) → Shows (asking_all qs stub) M a (F ++ qs)
+pub asked_all_show : (qs : List Question) (stub : StubState) (M : Map) (a : Name → ℕ) (F : List Question) → Shows stub M a F → AllNew F qs → ((n : Name) → has_name n F ≡ false → M n ≡ None) → Shows (asking_all qs stub) M a (F ++ qs)
 asked_all_show [] stub M a F s new untold = subst (Shows stub M a) (sym (append-nil F)) s
 asked_all_show (q ∷ qs) stub M a F s new untold =
     subst (Shows (asking_all qs (asking q stub)) M a) (append_assoc F (q ∷ []) qs)
@@ -77,7 +78,7 @@ received t h (Given d) sent stub same s =
     (given_shows stub (told t h) (age h) (firsts h) d s (distinct h) (firsts_named h))
 received t h Tick sent stub same s = subst (λ M. Shows stub M (age h) (firsts h)) (told_tick t h sent) s
 
-untold_next : (t : Terms) (h : Turns) (e : Event) (sent : List Outgoing) (n : List ℕ) → was_sent h n ≡ false → told t (Then h e sent) n ≡ None
+untold_next : (t : Terms) (h : Turns) (e : Event) (sent : List Outgoing) (n : Name) → was_sent h n ≡ false → told t (Then h e sent) n ≡ None
 untold_next t h e sent n k = told_next t h e sent n ∙ ap (λ r. or_else r (accepted t h e n)) (told_unsent t h n k) ∙ accepted_unsent t h e n k
 
 -- the ages after an event
@@ -85,14 +86,14 @@ module _ (h : Turns) (e : Event) (sent : List Outgoing) where
   aged_by_beat : is_beat h e ≡ true → older (firsts (Then h e sent)) (age h) ≡ age (Then h e sent)
   aged_by_beat b = fun_ext (λ n. go n (was_sent (Then h e sent) n) refl)
     where
-      go : (n : List ℕ) (s : Bool) → was_sent (Then h e sent) n ≡ s → older (firsts (Then h e sent)) (age h) n ≡ age (Then h e sent) n
+      go : (n : Name) (s : Bool) → was_sent (Then h e sent) n ≡ s → older (firsts (Then h e sent)) (age h) n ≡ age (Then h e sent) n
       go n true s = older_age (firsts (Then h e sent)) (age h) n s ∙ sym (age_next h e sent n s ∙ ap (λ c. age h n + cond c 1 0) b)
       go n false s = older_none (firsts (Then h e sent)) (age h) n s ∙ sym (age_unsent (Then h e sent) n s)
 
   aged_by_none : is_beat h e ≡ false → age h ≡ age (Then h e sent)
   aged_by_none b = fun_ext (λ n. go n (was_sent (Then h e sent) n) refl)
     where
-      go : (n : List ℕ) (s : Bool) → was_sent (Then h e sent) n ≡ s → age h n ≡ age (Then h e sent) n
+      go : (n : Name) (s : Bool) → was_sent (Then h e sent) n ≡ s → age h n ≡ age (Then h e sent) n
       go n true s = sym (age_next h e sent n s ∙ ap (λ c. age h n + cond c 1 0) b ∙ (let z : age h n + 0 ≡ age h n = omega arith in z))
       go n false s = age_unsent h n (unsent_before h e sent n s) ∙ sym (age_unsent (Then h e sent) n s)
 

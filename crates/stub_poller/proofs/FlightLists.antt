@@ -7,6 +7,7 @@ use Rattle.std.proofs.lemmas.List.{length-map, take_more}
 use Rattle.std.proofs.lemmas.List.Elements.{All-head, All-same, All-tail, All-weaker, filter_map-append, filter_passes}
 use Rattle.std.proofs.lemmas.List.Filters.{length-filter_both}
 use Rattle.pac_names.specs.declared.answer.Answer.{Answer}
+use Rattle.pac_names.specs.Names.{Name}
 use Rattle.dns_message.specs.Header.{header_of}
 use Rattle.dns_message.specs.Numbers.{number_at}
 use Rattle.dns_message.specs.Reply.{reply_of}
@@ -17,7 +18,7 @@ use Rattle.poll_log.specs.declared.terms.Terms.{Terms}
 use Rattle.stub_poller.specs.State.{aged, answer_to, answered_by, unanswered_by, named_or, left_unless, is_over, is_young, name_of, sending_of}
 
 -- a reply carries the number of its question
-pub other_number : (datagram name : List ℕ) (id : ℕ) → (id ≡ number_at datagram 0 → ⊥) → reply_of datagram id name ≡ None
+pub other_number : (datagram : List ℕ) (name : Name) (id : ℕ) → (id ≡ number_at datagram 0 → ⊥) → reply_of datagram id name ≡ None
 other_number datagram name id n = no_response datagram name id (header_of datagram) refl (off _ _ _ _ _ _ (ne_eqb (number_at datagram 0) id (λ e. n (sym e))))
   where
     off : (a b c d e f : Bool) → a ≡ false → (((((a && b) && c) && d) && e) && f) ≡ false

@@ -7,13 +7,15 @@ use Rattle.std.proofs.lemmas.Bool.Decides.{nat_tests}
 use Rattle.std.proofs.lemmas.List.{map-append}
 use Rattle.std.proofs.lemmas.List.Elements.{filter-append}
 use Rattle.pac_names.specs.declared.answer.Answer.{Answer}
+use Rattle.pac_names.specs.Comparing.{same_name}
+use Rattle.pac_names.specs.Names.{Name}
 use Rattle.dns_message.specs.Reply.{reply_of}
 use Rattle.dns_message.proofs.QueryLaws.{one_name_law}
 use Rattle.poll_log.specs.declared.flight.Flight.{Flight}
 use Rattle.poll_log.specs.declared.question.Question.{Question}
 use Rattle.poll_log.specs.declared.sending.Sending.{Sending}
 use Rattle.poll_log.specs.declared.terms.Terms.{Terms}
-use Rattle.poll_log.specs.Questions.{has_name, number_in, numbered_sending, same_name}
+use Rattle.poll_log.specs.Questions.{has_name, number_in, numbered_sending}
 use Rattle.poll_log.specs.Sendings.{limit, sending_at}
 use Rattle.poll_log.specs.Told.{Map, accepted_in, or_else, reply_to}
 use Rattle.poll_log.specs.Moment.{dead_in, flies, flight_at, flights_in, older, sent_again}
@@ -26,7 +28,7 @@ use Rattle.stub_poller.specs.Shows.{Shows}
 use Rattle.stub_poller.proofs.Ages.{has_tries, has_wait}
 use Rattle.stub_poller.proofs.FlightLists.{over_or_young}
 
-pub flights_cons : (L : ℕ) (M : Map) (a : List ℕ → ℕ) (q : Question) (F : List Question) → flights_in L M a (q ∷ F) ≡ cond (flies L M a q.name) (flight_at a q ∷ flights_in L M a F) (flights_in L M a F)
+pub flights_cons : (L : ℕ) (M : Map) (a : Name → ℕ) (q : Question) (F : List Question) → flights_in L M a (q ∷ F) ≡ cond (flies L M a q.name) (flight_at a q ∷ flights_in L M a F) (flights_in L M a F)
 unfolding flights_in
 flights_cons L M a q F = go (flies L M a q.name)
   where
@@ -34,11 +36,11 @@ flights_cons L M a q F = go (flies L M a q.name)
     go true = refl
     go false = refl
 
-pub flights_nil : (L : ℕ) (M : Map) (a : List ℕ → ℕ) → flights_in L M a [] ≡ []
+pub flights_nil : (L : ℕ) (M : Map) (a : Name → ℕ) → flights_in L M a [] ≡ []
 unfolding flights_in
 flights_nil L M a = refl
 
-pub flights-append : (L : ℕ) (M : Map) (a : List ℕ → ℕ) (F G : List Question) → flights_in L M a (F ++ G) ≡ flights_in L M a F ++ flights_in L M a G
+pub flights-append : (L : ℕ) (M : Map) (a : Name → ℕ) (F G : List Question) → flights_in L M a (F ++ G) ≡ flights_in L M a F ++ flights_in L M a G
 unfolding flights_in
 flights-append L M a F G = ap (map (flight_at a)) (filter-append (λ (q : Question). flies L M a q.name) F G) ∙ map-append (flight_at a) (filter (λ q. flies L M a q.name) F) (filter (λ q. flies L M a q.name) G)
 
@@ -49,10 +51,10 @@ young_at_first L p = grind (arith, nat_tests)
 not_over_at_first : (L : ℕ) → 0 < L → nat_le L 0 ≡ false
 not_over_at_first L p = grind (arith, nat_tests)
 
-young_flies : (L : ℕ) (M : Map) (a : List ℕ → ℕ) (n : List ℕ) → M n ≡ None → a n ≡ 0 → 0 < L → flies L M a n ≡ true
+young_flies : (L : ℕ) (M : Map) (a : Name → ℕ) (n : Name) → M n ≡ None → a n ≡ 0 → 0 < L → flies L M a n ≡ true
 young_flies L M a n u z p = ap (λ r. is_none r && nat_lt (a n) L) u ∙ ap (λ x. nat_lt x L) z ∙ young_at_first L p
 
-pub asked_shows : (stub : StubState) (M : Map) (a : List ℕ → ℕ) (F : List Question) (q : Question) → Shows stub M a F → has_name q.name F ≡ false → M q.name ≡ None → Shows (asking q stub) M a (F ++ q ∷ [])
+pub asked_shows : (stub : StubState) (M : Map) (a : Name → ℕ) (F : List Question) (q : Question) → Shows stub M a F → has_name q.name F ≡ false → M q.name ≡ None → Shows (asking q stub) M a (F ++ q ∷ [])
 unfolding dead_in
 asked_shows stub M a F q s new u =
     record {
@@ -75,7 +77,7 @@ asked_shows stub M a F q s new u =
         ∙ ap (λ l. flight_at a q ∷ l) (flights_nil L M a)
         ∙ ap (λ (x : ℕ). let f : Flight = record { question = q; age = x } in f ∷ []) (s.young q.name new)
 
-    widened : (n : List ℕ) (b : Bool) → same_name q.name n ≡ b → has_name n F ≡ (has_name n F && (not b || has_name n F))
+    widened : (n : Name) (b : Bool) → same_name q.name n ≡ b → has_name n F ≡ (has_name n F && (not b || has_name n F))
     widened n true e = self (has_name n F)
       where
         self : (x : Bool) → x ≡ (x && (false || x))
@@ -87,7 +89,7 @@ asked_shows stub M a F q s new u =
         self true = refl
         self false = refl
 
-    dead : (n : List ℕ) (b : Bool) → same_name q.name n ≡ b → (((has_name n F && (not b || has_name n F)) && is_none (M n)) && nat_le L (a n)) ≡ ((has_name n (F ++ q ∷ []) && is_none (M n)) && nat_le L (a n))
+    dead : (n : Name) (b : Bool) → same_name q.name n ≡ b → (((has_name n F && (not b || has_name n F)) && is_none (M n)) && nat_le L (a n)) ≡ ((has_name n (F ++ q ∷ []) && is_none (M n)) && nat_le L (a n))
     dead n false e = ap (λ b. (b && is_none (M n)) && nat_le L (a n)) (and-true (has_name n F) ∙ sym (has_name-append n F (q ∷ []) ∙ ap (λ b. has_name n F || (b || false)) e ∙ plain (has_name n F)))
       where
         plain : (x : Bool) → (x || false) ≡ x
@@ -121,7 +123,7 @@ unanswered-filter d (f ∷ fs) h = go (answer_to d f) refl (unanswered-filter d 
     go None e ih = ap (λ l. f ∷ l) ih
     go (Some x) e ih = sym (all_left d fs (h.0 (ap is_some e)))
 
-module _ (L : ℕ) (M : Map) (a : List ℕ → ℕ) (d : List ℕ) where
+module _ (L : ℕ) (M : Map) (a : Name → ℕ) (d : List ℕ) where
   -- a name other than the one that is answered is not
   not_others : (pre : List Question) (q : Question) (G : List Question) → has_name q.name pre ≡ true → HasLookupName q → AllNew pre G → AllByRecursion HasLookupName G → IsSome (reply_of d q.id q.name) → AllByRecursion (λ g. answer_to d g ≡ None) (flights_in L M a G)
   not_others pre q [] seen named new names s = subst (AllByRecursion (λ g. answer_to d g ≡ None)) (sym (flights_nil L M a)) tt
@@ -158,10 +160,10 @@ has_here : (pre : List Question) (q : Question) (G : List Question) → has_name
 has_here pre q G = has_name-append q.name pre (q ∷ G) ∙ ap (λ b. has_name q.name pre || (b || has_name q.name G)) (same_itself q.name) ∙ or-true (has_name q.name pre)
 
 -- the answers with what a datagram tells
-abbrev pub told_by : ℕ → Map → (List ℕ → ℕ) → List Question → List ℕ → Map
+abbrev pub told_by : ℕ → Map → (Name → ℕ) → List Question → List ℕ → Map
 told_by L M a F d n = or_else (M n) (accepted_in L a F d n)
 
-module _ (L : ℕ) (M : Map) (a : List ℕ → ℕ) (d : List ℕ) where
+module _ (L : ℕ) (M : Map) (a : Name → ℕ) (d : List ℕ) where
   -- a question still flies where it did and is not answered
   still_flies : (pre : List Question) (q : Question) (G : List Question) → has_name q.name pre ≡ false → flies L (told_by L M a (pre ++ q ∷ G) d) a q.name ≡ (flies L M a q.name && is_none (reply_of d q.id q.name))
   unfolding accepted_in
@@ -203,7 +205,7 @@ module _ (L : ℕ) (M : Map) (a : List ℕ → ℕ) (d : List ℕ) where
       go true = refl
       go false = refl
 
-pub given_shows : (stub : StubState) (M : Map) (a : List ℕ → ℕ) (F : List Question) (d : List ℕ) → Shows stub M a F → AllNew [] F → AllByRecursion HasLookupName F → Shows (given d stub) (told_by (limit stub.terms) M a F d) a F
+pub given_shows : (stub : StubState) (M : Map) (a : Name → ℕ) (F : List Question) (d : List ℕ) → Shows stub M a F → AllNew [] F → AllByRecursion HasLookupName F → Shows (given d stub) (told_by (limit stub.terms) M a F d) a F
 unfolding dead_in accepted_in
 given_shows stub M a F d s new names =
     record {
@@ -219,28 +221,28 @@ given_shows stub M a F d s new names =
     L : ℕ
     L = limit stub.terms
 
-    dead : (n : List ℕ) (h : Bool) (m : Option Answer) (o : Bool) → ((h && is_none m) && o) ≡ ((h && is_none (or_else m (cond (h && not o) (reply_to (number_in F n) d n) None))) && o)
+    dead : (n : Name) (h : Bool) (m : Option Answer) (o : Bool) → ((h && is_none m) && o) ≡ ((h && is_none (or_else m (cond (h && not o) (reply_to (number_in F n) d n) None))) && o)
     dead n true (Some x) o = refl
     dead n true None true = refl
     dead n true None false = sym (and-false _)
     dead n false m o = refl
 
 -- A beat passes.
-abbrev Aged : List Question → (List ℕ → ℕ) → (List ℕ → ℕ) → Type 0
-Aged G a b = (n : List ℕ) → has_name n G ≡ true → b n ≡ a n + 1
+abbrev Aged : List Question → (Name → ℕ) → (Name → ℕ) → Type 0
+Aged G a b = (n : Name) → has_name n G ≡ true → b n ≡ a n + 1
 
-aged_head : (q : Question) (G : List Question) (a b : List ℕ → ℕ) → Aged (q ∷ G) a b → b q.name ≡ a q.name + 1
+aged_head : (q : Question) (G : List Question) (a b : Name → ℕ) → Aged (q ∷ G) a b → b q.name ≡ a q.name + 1
 aged_head q G a b h = h q.name (ap (λ c. c || has_name q.name G) (same_itself q.name))
 
-aged_tail : (q : Question) (G : List Question) (a b : List ℕ → ℕ) → Aged (q ∷ G) a b → Aged G a b
+aged_tail : (q : Question) (G : List Question) (a b : Name → ℕ) → Aged (q ∷ G) a b → Aged G a b
 aged_tail q G a b h n e = h n (second (same_name q.name n) (has_name n G) e)
   where
     second : (x y : Bool) → y ≡ true → (x || y) ≡ true
     second true y e = refl
     second false y e = e
 
-module _ (L : ℕ) (M : Map) (a b : List ℕ → ℕ) where
-  flies_aged : (n : List ℕ) → b n ≡ a n + 1 → flies L M b n ≡ (flies L M a n && nat_lt (a n + 1) L)
+module _ (L : ℕ) (M : Map) (a b : Name → ℕ) where
+  flies_aged : (n : Name) → b n ≡ a n + 1 → flies L M b n ≡ (flies L M a n && nat_lt (a n + 1) L)
   flies_aged n e = ap (λ x. is_none (M n) && nat_lt x L) e ∙ go (is_none (M n)) (nat_lt (a n) L) (nat_lt (a n + 1) L) (λ f. grind (arith, nat_tests))
     where
       go : (m x y : Bool) → (y ≡ true → x ≡ true) → (m && y) ≡ ((m && x) && y)
@@ -265,7 +267,7 @@ module _ (L : ℕ) (M : Map) (a b : List ℕ → ℕ) where
       go true k = ap (λ (x : ℕ). let f : Flight = record { question = q; age = x } in cond (nat_lt (a q.name + 1) L) (f ∷ rest) rest) (sym k)
       go false k = refl
 
-  deaths : (G : List Question) (n : List ℕ) → has n (map name_of (filter (is_over L) (map aged (flights_in L M a G)))) ≡ ((has_name n G && flies L M a n) && not (nat_lt (a n + 1) L))
+  deaths : (G : List Question) (n : Name) → has n (map name_of (filter (is_over L) (map aged (flights_in L M a G)))) ≡ ((has_name n G && flies L M a n) && not (nat_lt (a n + 1) L))
   deaths [] n = ap (λ l. has n (map name_of (filter (is_over L) (map aged l)))) (flights_nil L M a)
   deaths (q ∷ G) n =
       ap (λ l. has n (map name_of (filter (is_over L) (map aged l)))) (flights_cons L M a q G)
@@ -297,7 +299,7 @@ module _ (L : ℕ) (M : Map) (a b : List ℕ → ℕ) where
           same false = refl
 
 -- what falls due of the flights, one beat older
-module _ (t : Terms) (lasting : 0 < limit t) (M : Map) (a b : List ℕ → ℕ) where
+module _ (t : Terms) (lasting : 0 < limit t) (M : Map) (a b : Name → ℕ) where
   abbrev due : Question → ℕ → Option Sending
   due q age = option_map (numbered_sending q) (sending_at t age)
 
@@ -324,18 +326,18 @@ module _ (t : Terms) (lasting : 0 < limit t) (M : Map) (a b : List ℕ → ℕ) 
       go true = refl
       go false = refl
 
-pub older_age : (F : List Question) (a : List ℕ → ℕ) (n : List ℕ) → has_name n F ≡ true → older F a n ≡ a n + 1
+pub older_age : (F : List Question) (a : Name → ℕ) (n : Name) → has_name n F ≡ true → older F a n ≡ a n + 1
 unfolding older
 older_age F a n e = ap (λ b. cond b (a n + 1) 0) e
 
-pub older_none : (F : List Question) (a : List ℕ → ℕ) (n : List ℕ) → has_name n F ≡ false → older F a n ≡ 0
+pub older_none : (F : List Question) (a : Name → ℕ) (n : Name) → has_name n F ≡ false → older F a n ≡ 0
 unfolding older
 older_none F a n e = ap (λ b. cond b (a n + 1) 0) e
 
 dies_older : (L x : ℕ) → (nat_le L x || (nat_lt x L && not (nat_lt (x + 1) L))) ≡ nat_le L (x + 1)
 dies_older L x = grind (arith, nat_tests)
 
-pub beaten_shows : (stub : StubState) (M : Map) (a : List ℕ → ℕ) (F : List Question) → Shows stub M a F → Shows (beaten stub) M (older F a) F
+pub beaten_shows : (stub : StubState) (M : Map) (a : Name → ℕ) (F : List Question) → Shows stub M a F → Shows (beaten stub) M (older F a) F
 unfolding dead_in
 beaten_shows stub M a F s =
     record {
@@ -352,11 +354,11 @@ beaten_shows stub M a F s =
     L : ℕ
     L = limit stub.terms
 
-    go : (n : List ℕ) (b : Bool) → has_name n F ≡ b → (m : Bool) → (((b && m) && nat_le L (a n)) || ((b && (m && nat_lt (a n) L)) && not (nat_lt (a n + 1) L))) ≡ ((b && m) && nat_le L (older F a n))
+    go : (n : Name) (b : Bool) → has_name n F ≡ b → (m : Bool) → (((b && m) && nat_le L (a n)) || ((b && (m && nat_lt (a n) L)) && not (nat_lt (a n + 1) L))) ≡ ((b && m) && nat_le L (older F a n))
     go n true h true = dies_older L (a n) ∙ ap (nat_le L) (sym (older_age F a n h))
     go n true h false = refl
     go n false h m = refl
 
 -- what a beat sends again
-pub resent_shows : (stub : StubState) (M : Map) (a : List ℕ → ℕ) (F : List Question) → Shows stub M a F → resent stub ≡ filter_map (sent_again stub.terms M (older F a)) F
+pub resent_shows : (stub : StubState) (M : Map) (a : Name → ℕ) (F : List Question) → Shows stub M a F → resent stub ≡ filter_map (sent_again stub.terms M (older F a)) F
 resent_shows stub M a F s = ap (λ l. filter_map (sending_of stub.terms) (map aged l)) s.flying ∙ again_flights stub.terms s.lasting M a (older F a) F (older_age F a)

@@ -3,6 +3,7 @@ use Rattle.std.proofs.Common.{◌≡◌, ℕ, suc, ◌<◌, Bool, true, false, c
 use Rattle.std.proofs.Math.Seq.{drop-cons}
 use Rattle.std.specs.Prelude.{is_some, nat_le}
 use Rattle.std.proofs.lemmas.Bool.{ne_eqb}
+use Rattle.pac_names.specs.Names.{Name}
 use Rattle.dns_message.specs.Numbers.{number_at}
 use Rattle.dns_message.specs.Question.{question_end}
 use Rattle.dns_message.specs.Truncation.{is_truncated}
@@ -15,7 +16,7 @@ abbrev pub cuts : List ℕ → Flight → Bool
 cuts datagram f = is_truncated datagram f.question.id f.question.name
 
 -- a truncated response carries the number of its question
-pub other_cut : (datagram name : List ℕ) (id : ℕ) → (id ≡ number_at datagram 0 → ⊥) → is_truncated datagram id name ≡ false
+pub other_cut : (datagram : List ℕ) (name : Name) (id : ℕ) → (id ≡ number_at datagram 0 → ⊥) → is_truncated datagram id name ≡ false
 unfolding is_truncated
 other_cut datagram name id n =
     off (nat_le 12 (length datagram)) _ _ _ _ _ (is_some (question_end datagram name)) (ne_eqb (number_at datagram 0) id (λ e. n (sym e)))

@@ -2,12 +2,14 @@
 use Rattle.std.specs.Prelude.{ℕ, ◌+◌, Bool, nat_lt, nat_le, Option, Some, None, option_map, List, [], ◌∷◌, ◌++◌, map}
 use Rattle.std.specs.List.{filter, filter_map, list_any}
 use Rattle.pac_names.specs.declared.answer.Answer.{Answer}
+use Rattle.pac_names.specs.Comparing.{same_name}
+use Rattle.pac_names.specs.Names.{Name}
 use Rattle.dns_message.specs.Reply.{reply_of}
 use Rattle.poll_log.specs.declared.flight.Flight.{Flight}
 use Rattle.poll_log.specs.declared.question.Question.{Question}
 use Rattle.poll_log.specs.declared.sending.Sending.{Sending}
 use Rattle.poll_log.specs.declared.terms.Terms.{Terms}
-use Rattle.poll_log.specs.Questions.{numbered_sending, same_name}
+use Rattle.poll_log.specs.Questions.{numbered_sending}
 use Rattle.poll_log.specs.Sendings.{limit, sending_at}
 
 pub record StubState : Type 0 where
@@ -15,13 +17,13 @@ pub record StubState : Type 0 where
   -- the questions in flight, in the order of asking
   pub flights : List Flight
   -- the dead names, in the order of dying
-  pub dead : List (List ℕ)
+  pub dead : List Name
 
 -- nothing was asked
 abbrev pub new_stub : Terms → StubState
 new_stub terms = record { terms = terms; flights = []; dead = [] }
 
-abbrev pub name_of : Flight → List ℕ
+abbrev pub name_of : Flight → Name
 name_of f = f.question.name
 
 -- with a question more in flight, of age 0
@@ -32,12 +34,12 @@ asking q stub = record stub { flights = stub.flights ++ record { question = q; a
 abbrev pub answer_to : List ℕ → Flight → Option Answer
 answer_to datagram f = reply_of datagram f.question.id f.question.name
 
-abbrev pub named_or : List ℕ → Option Answer → Option (List ℕ × Answer) → Option (List ℕ × Answer)
+abbrev pub named_or : Name → Option Answer → Option (Name × Answer) → Option (Name × Answer)
 named_or name None rest = rest
 named_or name (Some answer) rest = Some (name, answer)
 
 -- the first name in flight to which a datagram is a reply, and the answer
-abbrev pub answered_by : List ℕ → List Flight → Option (List ℕ × Answer)
+abbrev pub answered_by : List ℕ → List Flight → Option (Name × Answer)
 answered_by datagram [] = None
 answered_by datagram (f ∷ flights) = named_or f.question.name (answer_to datagram f) (answered_by datagram flights)
 
@@ -74,7 +76,7 @@ abbrev pub resent : StubState → List Sending
 resent stub = filter_map (sending_of stub.terms) (map aged stub.flights)
 
 -- the names that a beat ends
-abbrev pub dying : StubState → List (List ℕ)
+abbrev pub dying : StubState → List Name
 dying stub = map name_of (filter (is_over (limit stub.terms)) (map aged stub.flights))
 
 -- At a beat each question in flight grows one beat older; those at the limit are dead.
@@ -85,8 +87,8 @@ beaten stub = record {
   dead = stub.dead ++ dying stub;
 }
 
-abbrev pub flies_in : List ℕ → StubState → Bool
+abbrev pub flies_in : Name → StubState → Bool
 flies_in name stub = list_any (λ f. same_name f.question.name name) stub.flights
 
-abbrev pub is_dead_in : List ℕ → StubState → Bool
+abbrev pub is_dead_in : Name → StubState → Bool
 is_dead_in name stub = list_any (λ n. same_name n name) stub.dead

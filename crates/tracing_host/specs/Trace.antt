@@ -1,7 +1,7 @@
 -- What a host writes down of a run, and what it answers.
 use Rattle.std.specs.Prelude.{◌≡◌, Option, Some, None, true, false}
 use Rattle.pac_names.specs.declared.answer.Answer.{Answer}
-use Rattle.js_host.specs.Answers.{Name}
+use Rattle.pac_names.specs.Names.{Name}
 use Rattle.js_host.specs.Seen.{is_one_too_many, with_name}
 use Rattle.js_host.specs.declared.host.Looked.{Looked}
 use Rattle.js_host.specs.declared.host.Looked.TheVariants.{Known, Missing, TooMany, Memory}

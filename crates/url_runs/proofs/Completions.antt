@@ -1,11 +1,11 @@
 -- For each log there is a map of all names that agrees with it, and each that agrees may be taken.
 use Rattle.std.proofs.Common.{◌≡◌, List, [], ◌∷◌, Bool, true, false, cond, Option, Some, None, refl, sym, ◌∙◌, ap}
-use Rattle.std.specs.Ordering.{eq_by_cmp, nat_cmp}
-use Rattle.std.specs.Cmp.Lexicographic.{slice_cmp}
+use Rattle.std.specs.Ordering.{eq_by_cmp}
 use Rattle.std.specs.FinMap as map
 use Rattle.pac_names.specs.declared.answer.Answer.{Answer}
-use Rattle.utf16_text.specs.Comparing.{numbers_total}
-use Rattle.js_host.specs.Answers.{Name, AnswerMap}
+use Rattle.pac_names.specs.Names.{Name}
+use Rattle.pac_names.specs.Comparing.{compare_names, names_total, names_apart}
+use Rattle.js_host.specs.Answers.{AnswerMap}
 use Rattle.poll_log.specs.declared.terms.Terms.{Terms}
 use Rattle.poll_log.specs.Turns.{Turns}
 use Rattle.poll_log.specs.Told.{or_else, told}
@@ -33,13 +33,13 @@ found_or true x o p = refl
 found_or false x o p = refl
 
 over-get : (all : AnswerMap) (es : List (Name × Answer)) (n : Name)
-    → map.get (over all es) n ≡ or_else (map.find (slice_cmp nat_cmp) n es) (map.get all n)
+    → map.get (over all es) n ≡ or_else (map.find compare_names n es) (map.get all n)
 unfolding over
 over-get all [] n = refl
 over-get all (e ∷ es) n =
-    map.get-insert numbers_total (over all es) e.0 e.1 n
-    ∙ ap (λ o. cond (eq_by_cmp (slice_cmp nat_cmp) n e.0) (Some e.1) o) (over-get all es n)
-    ∙ found_or (eq_by_cmp (slice_cmp nat_cmp) n e.0) e.1 (map.find (slice_cmp nat_cmp) n es) (map.get all n)
+    map.get-insert names_total (over all es) e.0 e.1 n
+    ∙ ap (λ o. cond (eq_by_cmp compare_names n e.0) (Some e.1) o) (over-get all es n)
+    ∙ found_or (eq_by_cmp compare_names n e.0) e.1 (map.find compare_names n es) (map.get all n)
 
 module _ (all : AnswerMap) (terms : Terms) (turns : Turns) where
   abbrev with_told : AnswerMap
@@ -60,7 +60,7 @@ module _ (all : AnswerMap) (terms : Terms) (turns : Turns) where
     same_answer n (Some x) e = sym (holds n x e)
 
     with_told-same : with_told ≡ all
-    with_told-same = map.same_map numbers_total (map.slice_cmp-IsAntisymmetric map.nat_cmp-IsAntisymmetric) with_told all (λ n.
+    with_told-same = map.same_map names_total names_apart with_told all (λ n.
         with_told-get n ∙ same_answer n (told terms turns n) refl)
 
 pub each_map_is_taken : EachMapIsTaken

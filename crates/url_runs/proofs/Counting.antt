@@ -1,7 +1,7 @@
 -- No URL costs more runs than the distinct names of its whole run, and one.
 use Rattle.std.proofs.Common.{◌+◌, ◌≤◌, List, length, arith, subst}
 use Rattle.std.specs.FinMap as map
-use Rattle.js_host.specs.Answers.{Name}
+use Rattle.pac_names.specs.Names.{Name}
 use Rattle.run_trees.specs.RunTree.{RunTree}
 use Rattle.run_trees.specs.WholeRun.{asked_names}
 use Rattle.js_evaluation.specs.State.{RunEnd}

@@ -2,7 +2,8 @@
 use Rattle.std.proofs.Common.{◌≡◌, ℕ, List, [], ◌∷◌, Option, ap, sym, ◌∙◌, subst, map, refl}
 use Rattle.std.specs.List.{All}
 use Rattle.std.proofs.lemmas.List.Elements.{All-head, All-tail}
-use Rattle.js_host.specs.Answers.{AnswerMap, Name}
+use Rattle.pac_names.specs.Names.{Name}
+use Rattle.js_host.specs.Answers.{AnswerMap}
 use Rattle.js_evaluation.specs.Evaluation as def
 use Rattle.js_interp.specs.declared.entry.Entry.{Entry}
 use Rattle.js_interp.specs.declared.outcome.Outcome.{Outcome}

@@ -1,6 +1,7 @@
 -- Outcomes of runs, as the code has them.
 use Rattle.std.proofs.Common.{◌≡◌, ℕ, List, refl, ap, sym, ◌∙◌}
-use Rattle.js_host.specs.Answers.{Name, AnswerMap, Completes, wholly, Knowledge}
+use Rattle.pac_names.specs.Names.{Name}
+use Rattle.js_host.specs.Answers.{AnswerMap, Completes, wholly, Knowledge}
 use Rattle.js_host.specs.Seen.{Seen, kept_alerts}
 use Rattle.run_trees.specs.RunTree.{RunTree, Stopped}
 use Rattle.run_trees.specs.WholeRun.{asked_names, whole_run}

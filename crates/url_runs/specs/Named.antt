@@ -3,8 +3,7 @@ use Rattle.std.proofs.Common.{◌≡◌, Bool, true, false, cond, List, [], ◌�
 use Rattle.std.specs.Prelude.{IsTrue}
 use Rattle.std.specs.List.{AllByRecursion}
 use Rattle.pac_names.specs.declared.answer.Answer.{Answer}
-use Rattle.pac_names.specs.Names.{is_lookup_name}
-use Rattle.js_host.specs.Answers.{Name}
+use Rattle.pac_names.specs.Names.{Name, is_lookup_name}
 use Rattle.js_host.specs.Seen.{is_one_too_many, was_asked}
 use Rattle.run_trees.specs.RunTree.{RunTree, Ask, Done, Tell}
 use Rattle.run_trees.specs.WholeRun.{asked_with}

@@ -1,6 +1,7 @@
 -- A script for URLs, over a link: what is reported when each of them has ended, by the log.
 use Rattle.std.specs.Prelude.{List, Option, Some, None, map}
-use Rattle.js_host.specs.Answers.{AnswerMap, Name}
+use Rattle.pac_names.specs.Names.{Name}
+use Rattle.js_host.specs.Answers.{AnswerMap}
 use Rattle.js_evaluation.specs.Evaluation.{Entry, Outcome}
 use Rattle.poll_log.specs.declared.terms.Terms.{Terms}
 use Rattle.poll_log.specs.Turns.{Turns, turns_of}

@@ -8,6 +8,6 @@ use Rattle.dns_message.proofs.chain.first_address.Given as goal
 -- the records that are left are readable, and decide
 abbrev pub invariant-loop-turn : goal.invariant-loop-turn
 invariant-loop-turn l =
-    IsSome (facts_at (l.fn.section.count - l._turn) l.message l.at)
-    × (address_in (facts_known (facts_at l.fn.section.count l.message l.fn.section.at)) (name_there l.message l.present)
-    ≡ address_in (facts_known (facts_at (l.fn.section.count - l._turn) l.message l.at)) (name_there l.message l.present))
+    IsSome (facts_at l.fn.section.kind (l.fn.section.count - l._turn) l.message l.at)
+    × (address_in (facts_known (facts_at l.fn.section.kind l.fn.section.count l.message l.fn.section.at)) (name_there l.message l.present)
+    ≡ address_in (facts_known (facts_at l.fn.section.kind (l.fn.section.count - l._turn) l.message l.at)) (name_there l.message l.present))

@@ -7,21 +7,21 @@ use Rattle.dns_message.proofs.chain.first_alias.Goals as goal
 pub known_record-record-requires : goal.known_record-record-requires
 known_record-record-requires c =
     let less : c.args.section.count - c.loop-turn._turn ≡ suc (c.args.section.count - (c.loop-turn._turn + 1)) = omega arith in
-    first_readable _ _ c.args.message.now c.loop-turn.at less c.loop-turn.invariant.0
+    first_readable c.args.section.kind _ _ c.args.message.now c.loop-turn.at less c.loop-turn.invariant.0
 
 pub returns-in-Some-clause-alias : goal.returns-in-Some-clause-alias
 returns-in-Some-clause-alias c =
     let less : c.args.section.count - c.loop-turn._turn ≡ suc (c.args.section.count - (c.loop-turn._turn + 1)) = omega arith in
-    sym (c.loop-turn.invariant.1 ∙ alias_more _ _ c.args.message.now c.loop-turn.at (record_seen c.args.message.now c.known_record-record.result) (name_there c.args.message.now c.args.present) less c.known_record-record.ensures.«record» c.loop-turn.invariant.0
+    sym (c.loop-turn.invariant.1 ∙ alias_more c.args.section.kind _ _ c.args.message.now c.loop-turn.at (record_seen c.args.message.now c.known_record-record.result) (name_there c.args.message.now c.args.present) less c.known_record-record.ensures.«record» c.loop-turn.invariant.0
     ∙ c.in-Some.ensures.told _)
 
 pub loop-turn-preserved : goal.loop-turn-preserved
 loop-turn-preserved c =
     let less : c.args.section.count - c.loop-turn._turn ≡ suc (c.args.section.count - (c.loop-turn._turn + 1)) = omega arith in (
-      rest_readable _ _ c.args.message.now c.loop-turn.at (record_seen c.args.message.now c.known_record-record.result) less c.known_record-record.ensures.«record» c.loop-turn.invariant.0,
-      c.loop-turn.invariant.1 ∙ alias_more _ _ c.args.message.now c.loop-turn.at (record_seen c.args.message.now c.known_record-record.result) (name_there c.args.message.now c.args.present) less c.known_record-record.ensures.«record» c.loop-turn.invariant.0
+      rest_readable c.args.section.kind _ _ c.args.message.now c.loop-turn.at (record_seen c.args.message.now c.known_record-record.result) less c.known_record-record.ensures.«record» c.loop-turn.invariant.0,
+      c.loop-turn.invariant.1 ∙ alias_more c.args.section.kind _ _ c.args.message.now c.loop-turn.at (record_seen c.args.message.now c.known_record-record.result) (name_there c.args.message.now c.args.present) less c.known_record-record.ensures.«record» c.loop-turn.invariant.0
           ∙ c.in_default.ensures.told _,
     )
 
 pub returns-clause-alias : goal.returns-clause-alias
-returns-clause-alias c = sym (c.loop-turn.invariant.1 ∙ alias_none (c.args.section.count - c.loop-turn._turn) c.args.message.now c.loop-turn.at (name_there c.args.message.now c.args.present) (omega arith))
+returns-clause-alias c = sym (c.loop-turn.invariant.1 ∙ alias_none c.args.section.kind (c.args.section.count - c.loop-turn._turn) c.args.message.now c.loop-turn.at (name_there c.args.message.now c.args.present) (omega arith))

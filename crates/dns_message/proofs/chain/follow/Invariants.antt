@@ -10,5 +10,5 @@ use Rattle.dns_message.proofs.chain.follow.Given as goal
 abbrev pub invariant-loop-step : goal.invariant-loop-step
 invariant-loop-step l =
     IsSome (labels_at l.message l.present)
-    × (answer_on 16 (facts_known (facts_at l.fn.section.count l.message l.fn.section.at)) (name_there l.message l.asked)
-    ≡ answer_on (16 - l._step) (facts_known (facts_at l.fn.section.count l.message l.fn.section.at)) (name_there l.message l.present))
+    × (answer_on 16 (facts_known (facts_at l.fn.section.kind l.fn.section.count l.message l.fn.section.at)) (name_there l.message l.asked)
+    ≡ answer_on (16 - l._step) (facts_known (facts_at l.fn.section.kind l.fn.section.count l.message l.fn.section.at)) (name_there l.message l.present))

@@ -1,5 +1,6 @@
-use Rattle.std.proofs.Common.{List, ℕ, Some, ◌∙◌, sym}
+use Rattle.std.proofs.Common.{ℕ, Some, ◌∙◌, sym}
 use Rattle.std.proofs.lemmas.Bool.{false≢true}
+use Rattle.pac_names.specs.Names.{Name}
 use Rattle.dns_name.proofs.SameLaws.{bytes_same, same_bytes}
 use Rattle.dns_message.specs.Question.{question_octets}
 use Rattle.dns_message.proofs.QueryLaws.{both_same, not_both, number_of, question_of, same_inside}
@@ -18,7 +19,7 @@ returns-then-eq-clause-found c =
 pub returns-then-eq-clause-back : goal.returns-then-eq-clause-back
 returns-then-eq-clause-back c id name small kept e =
     let named = same_inside c.in_ok-name.name name (sym c.in_ok-name.was ∙ c.plain_name.ensures.named name kept (question_of c.args.datagram.now name id e)) in
-    both_same (λ (k : ℕ) (x : List ℕ). Some (k, x)) c.read_u16-id.result id c.in_ok-name.name name (c.read_u16-id.ensures ∙ number_of c.args.datagram.now name id small e) named
+    both_same (λ (k : ℕ) (x : Name). Some (k, x)) c.read_u16-id.result id c.in_ok-name.name name (c.read_u16-id.ensures ∙ number_of c.args.datagram.now name id small e) named
 
 pub returns-else-eq-clause-back : goal.returns-else-eq-clause-back
 returns-else-eq-clause-back c id name small kept e =

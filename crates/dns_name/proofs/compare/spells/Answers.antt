@@ -10,16 +10,16 @@ use Rattle.dns_name.proofs.compare.spells.Goals as goal
 pub labels-init : goal.labels-init
 labels-init c =
     rw c.bytes.ensures.value
-    (spelled_whole c.args.message.now c.args.at (labels_of c.args.name.now) (omega (arith, labels_length-labels_of c.args.name.now, c.bytes.ensures.short)), c.bytes.ensures.labels)
+    (spelled_whole c.args.message.now c.args.at (labels_of c.args.name.now.text) (omega (arith, labels_length-labels_of c.args.name.now.text, c.bytes.ensures.short)), c.bytes.ensures.labels)
 
 pub returns-then-not-eq_ignore_ascii_case : goal.returns-then-not-eq_ignore_ascii_case
 returns-then-not-eq_ignore_ascii_case c =
-    sym (spells_differs (spells_name c.args.message.now c.args.at c.args.name.now) _ _ _ _ c.in-Label.found.now c.split_label.result.0.now c.labels.invariant.0 c.in-Label.ensures
+    sym (spells_differs (spells_name c.args.message.now c.args.at c.args.name.now.text) _ _ _ _ c.in-Label.found.now c.split_label.result.0.now c.labels.invariant.0 c.in-Label.ensures
     (ap (λ (o : Option (Bor (List ℕ))). labels_behind (option_copied o)) c.in-Some.is ∙ c.split_label.ensures.labels) c.labels.invariant.1
     (iff_false c.eq_ignore_ascii_case.ensures.test c.if-not-eq_ignore_ascii_case.true))
 
 pub labels-preserved : goal.labels-preserved
 labels-preserved c =
-    spells_goes_on (spells_name c.args.message.now c.args.at c.args.name.now) _ _ _ _ c.in-Label.found.now c.split_label.result.0.now c.labels.invariant.0 c.in-Label.ensures
+    spells_goes_on (spells_name c.args.message.now c.args.at c.args.name.now.text) _ _ _ _ c.in-Label.found.now c.split_label.result.0.now c.labels.invariant.0 c.in-Label.ensures
     (ap (λ (o : Option (Bor (List ℕ))). labels_behind (option_copied o)) c.in-Some.is ∙ c.split_label.ensures.labels) c.labels.invariant.1
     (c.eq_ignore_ascii_case.ensures.test.0 c.if-not-eq_ignore_ascii_case.false)

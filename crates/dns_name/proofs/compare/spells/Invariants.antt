@@ -11,7 +11,7 @@ use Rattle.dns_name.proofs.compare.spells.Given as goal
 -- what is left of both decides, and the labels left are those of a lookup name
 abbrev pub invariant-labels : goal.invariant-labels
 invariant-labels l =
-    (spells_name l.message l.at l.name ≡ spelled_rest (labels_from l.message l.place) (labels_behind (option_copied l.rest)))
+    (spells_name l.message l.at l.name.text ≡ spelled_rest (labels_from l.message l.place) (labels_behind (option_copied l.rest)))
     × (list_all is_label (labels_behind (option_copied l.rest)) ≡ true)
 
 abbrev pub decreases-labels : goal.decreases-labels

@@ -2,6 +2,7 @@ use Rattle.std.proofs.Common.{◌≡◌, ℕ, suc, ◌+◌, ◌<◌, ◌∙◌, 
 use Rattle.std.specs.List.{All, HoldsAt}
 use Rattle.std.proofs.lemmas.List.Elements.{All-same}
 use Rattle.pac_names.specs.declared.answer.Answer.{Answer}
+use Rattle.pac_names.specs.Names.{Name}
 use Rattle.poll_log.specs.declared.flight.Flight.{Flight}
 use Rattle.poll_log.specs.declared.terms.Terms.{Terms}
 use Rattle.stub_poller.specs.State.{StubState, answer_to, answered_by, given, unanswered_by}
@@ -18,7 +19,7 @@ one_in datagram slice flights at d answer e low before here =
     (subst (λ (l : List Flight). All (λ f. answer_to datagram f ≡ None) (take at l)) e before)
     (subst (λ (l : List Flight). answer_to datagram (get_or l at d) ≡ Some answer) e (here d))
 
-abbrev with_flights : Terms → List (List ℕ) → List Flight → StubState
+abbrev with_flights : Terms → List Name → List Flight → StubState
 with_flights terms dead flights = record { terms = terms; flights = flights; dead = dead }
 
 pub returns-in_err-found-clause-answer : goal.returns-in_err-found-clause-answer

@@ -1,0 +1,8 @@
+use Rattle.std.proofs.Common.{arith}
+use Rattle.dns_message.proofs.Writes.{written_on}
+use Rattle.dns_message.proofs.reply.write_address6.Goals as goal
+
+pub returns-clause-written : goal.returns-clause-written
+returns-clause-written c =
+    written_on c.args.buffer.now c.write_record_front-at.new.buffer c.write_u128.new.buffer c.args.at c.write_record_front-at.result _ _ c.write_record_front-at.ensures.written c.write_u128.ensures.written
+    (omega (arith, c.write_record_front-at.ensures.behind)) (omega (arith, c.requires, c.told-buffer))
