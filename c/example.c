@@ -11,7 +11,7 @@
 #include "pac.h"
 
 static uint8_t script[PAC_MOST_BYTES + 1];
-static char names[PAC_MOST_NAMES * PAC_NAME_LINE + 1];
+static char names[PAC_MOST_NAMES * 2 * PAC_NAME_LINE + 1];
 
 /* Without an answer nothing is to be fetched, and not directly either: that is no less a choice than a proxy. */
 static void stop(const char *what, const char *text) {
@@ -19,19 +19,34 @@ static void stop(const char *what, const char *text) {
   exit(1);
 }
 
-/* Adds the line of a name: its first address, or `-` where it has none. */
-static void tell(const char *name) {
-  struct addrinfo wanted = {.ai_family = AF_INET}, *found;
-  char address[INET_ADDRSTRLEN] = "-";
-  int error = getaddrinfo(name, NULL, &wanted, &found);
-  if (error == 0) {
-    inet_ntop(AF_INET, &((struct sockaddr_in *)found->ai_addr)->sin_addr, address, sizeof address);
-    freeaddrinfo(found);
-  } else if (error != EAI_NONAME && error != EAI_NODATA) {
-    stop("unanswered", name);
-  }
+static void add_line(const char *name, const char *address) {
   size_t length = strlen(names);
   snprintf(names + length, sizeof names - length, "%s %s\n", name, address);
+}
+
+/* The octets of an address of either family. */
+static const void *octets_of(const struct sockaddr *address) {
+  return address->sa_family == AF_INET ? (const void *)&((const struct sockaddr_in *)address)->sin_addr
+                                       : (const void *)&((const struct sockaddr_in6 *)address)->sin6_addr;
+}
+
+/* Adds the line of a name's first address of a family; 0 where it has none. */
+static int tell_address(const char *name, int family) {
+  struct addrinfo wanted = {.ai_family = family}, *found;
+  char address[INET6_ADDRSTRLEN];
+  int error = getaddrinfo(name, NULL, &wanted, &found);
+  if (error == EAI_NONAME || error == EAI_NODATA || error == EAI_ADDRFAMILY) return 0;
+  if (error != 0) stop("unanswered", name);
+  inet_ntop(family, octets_of(found->ai_addr), address, sizeof address);
+  freeaddrinfo(found);
+  add_line(name, address);
+  return 1;
+}
+
+/* Adds the lines of a name: its first address of each family, or `-` where it has none. */
+static void tell(const char *name) {
+  int told = tell_address(name, AF_INET6) + tell_address(name, AF_INET);
+  if (told == 0) add_line(name, "-");
 }
 
 int main(int count, char **words) {

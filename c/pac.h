@@ -1,11 +1,11 @@
 /* Which proxies to try for a URL, as a proxy auto-config (PAC) script says.
  *
  * Each call works on its arguments alone: it keeps nothing, opens no file and no socket, and reads no clock. A name
- * that the script asks for is looked up by the caller, who tells its address and calls again:
+ * that the script asks for is looked up by the caller, who tells its addresses and calls again:
  *
  *     status = pac_find_proxy(.., names, ..);
  *     while (status == PAC_NAME_WANTED) {
- *       add a line for that name to the names;
+ *       add the lines for that name to the names;
  *       status = pac_find_proxy(.., names, ..);
  *     }
  *
@@ -48,7 +48,7 @@ enum pac_status {
 
 #define PAC_MOST_BYTES 1048576  /* of a script, and of names */
 #define PAC_MOST_NAMES 32       /* distinct names that a run asks for; one more is a fault of the script */
-#define PAC_NAME_LINE 270       /* bytes of a line at most: 253 of a name, a space, 15 of an address, a line feed */
+#define PAC_NAME_LINE 300       /* bytes of a line at most: 253 of a name, a space, 45 of an address, a line feed */
 #define PAC_USUAL_FUEL 10000000 /* what the program `pac` gives a run */
 
 /* How a run is done. */
@@ -59,10 +59,13 @@ struct pac_settings {
   int32_t zone_minutes; /* how far clocks are ahead of UTC, -1439 to 1439 */
 };
 
-/* Runs a script for a URL. `names` is the text of a names file: a line for each name, with its address, or with `-`
- * where it has none. The answer is the report that `pac map` writes: `url 1 URL`; `alert TEXT` for each alert; `result
- * TEXT`, and `try ENTRY` for each proxy in the order in which to try them, or else `fault NUMBER NAME at LINE:COLUMN`;
- * `runs 1`. Each is a line. */
+/* Runs a script for a URL. `names` is the text of a names file: a line for each name, with its address, which is a
+ * dotted quad or an IPv6 text, or with `-` where it has none. A name may have two lines, one of each family. One line
+ * tells a name whole: of the other family it has no address then. So a name is wanted once, whichever of its addresses
+ * the script asks for first, and a caller that tells dotted quads alone tells that no name has an IPv6 address. The
+ * answer is the report that `pac map` writes: `url 1 URL`; `alert TEXT` for each alert; `result TEXT`, and `try ENTRY`
+ * for each proxy in the order in which to try them, or else `fault NUMBER NAME at LINE:COLUMN`; `runs 1`. Each is a
+ * line. */
 uint32_t pac_find_proxy(const uint8_t *script, size_t script_length, const uint8_t *url, size_t url_length,
                         const uint8_t *names, size_t names_length, const struct pac_settings *settings,
                         uint8_t *output, size_t room, size_t *whole);

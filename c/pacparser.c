@@ -30,7 +30,7 @@ static struct {
 struct run {
   const char *url;
   struct pac_settings settings;
-  char names[PAC_MOST_NAMES * PAC_NAME_LINE + 1];
+  char names[PAC_MOST_NAMES * 2 * PAC_NAME_LINE + 1];
   char *output;
   size_t room;
 };
@@ -57,26 +57,46 @@ static const char *reason(uint32_t status, char *line) {
   }
 }
 
-static enum looked_up look_up(const char *name, struct in_addr *address) {
-  struct addrinfo wanted = {.ai_family = AF_INET}, *found;
+/* The octets of an address of either family. */
+static const void *octets_of(const struct sockaddr *address) {
+  return address->sa_family == AF_INET ? (const void *)&((const struct sockaddr_in *)address)->sin_addr
+                                       : (const void *)&((const struct sockaddr_in6 *)address)->sin6_addr;
+}
+
+/* The first address of a name in a family, as text. */
+static enum looked_up look_up(const char *name, int family, char address[INET6_ADDRSTRLEN]) {
+  struct addrinfo wanted = {.ai_family = family}, *found;
   int error = getaddrinfo(name, NULL, &wanted, &found);
-  if (error == EAI_NONAME || error == EAI_NODATA) return NOT_THERE;
+  if (error == EAI_NONAME || error == EAI_NODATA || error == EAI_ADDRFAMILY) return NOT_THERE;
   if (error != 0) return NOT_TOLD;
-  *address = ((struct sockaddr_in *)found->ai_addr)->sin_addr;
+  inet_ntop(family, octets_of(found->ai_addr), address, INET6_ADDRSTRLEN);
   freeaddrinfo(found);
   return FOUND;
 }
 
-/* Adds the line of the name that is wanted; false where its look-up fails. */
-static bool add_name(struct run *run) {
-  struct in_addr address;
-  char quad[INET_ADDRSTRLEN] = "-";
-  enum looked_up end = look_up(run->output, &address);
-  if (end == NOT_TOLD) return false;
-  if (end == FOUND) inet_ntop(AF_INET, &address, quad, sizeof quad);
+static void add_line(struct run *run, const char *address) {
   size_t length = strlen(run->names);
-  snprintf(run->names + length, sizeof run->names - length, "%s %s\n", run->output, quad);
-  return true;
+  snprintf(run->names + length, sizeof run->names - length, "%s %s\n", run->output, address);
+}
+
+static enum looked_up add_address(struct run *run, int family) {
+  char address[INET6_ADDRSTRLEN];
+  enum looked_up end = look_up(run->output, family, address);
+  if (end == FOUND) add_line(run, address);
+  return end;
+}
+
+/* Whether the script speaks of a function that asks for IPv6 addresses; else these are not looked up. */
+static bool asks_for_ipv6(void) {
+  return strstr(kept.script, "dnsResolveEx") != NULL || strstr(kept.script, "isResolvableEx") != NULL;
+}
+
+/* Adds the lines of the name that is wanted; false where a look-up fails. */
+static bool add_name(struct run *run) {
+  enum looked_up six = asks_for_ipv6() ? add_address(run, AF_INET6) : NOT_THERE;
+  enum looked_up four = six == NOT_TOLD ? NOT_TOLD : add_address(run, AF_INET);
+  if (six == NOT_THERE && four == NOT_THERE) add_line(run, "-");
+  return four != NOT_TOLD;
 }
 
 static bool make_room(struct run *run, size_t room) {
@@ -142,10 +162,11 @@ static char *answer_of(char *report) {
 
 /* This machine's address. Its own name is looked up where no address was set and the script speaks of it. */
 static uint32_t my_ip(void) {
-  char name[256] = "";
+  char name[256] = "", text[INET6_ADDRSTRLEN];
   struct in_addr address = {htonl(LOOPBACK)};
   if (!kept.has_ip && strstr(kept.script, "myIpAddress") != NULL) {
-    if (gethostname(name, sizeof name - 1) == 0) look_up(name, &address);
+    if (gethostname(name, sizeof name - 1) == 0 && look_up(name, AF_INET, text) == FOUND)
+      inet_pton(AF_INET, text, &address);
     kept.my_ip = ntohl(address.s_addr);
     kept.has_ip = true;
   }

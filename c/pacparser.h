@@ -9,6 +9,8 @@
  * - A URL is read by the URL Standard, and its host is what the script sees. The host of the caller is not looked at.
  * - Where a name's look-up fails, as it does without a network, there is no answer: it isn't taken for a name without
  *   address.
+ * - IPv6 addresses are looked up only where the script speaks of dnsResolveEx or isResolvableEx, and of each family
+ *   the first address alone is told.
  * - What the script returns is its answer only where it is a text. What it hands to alert() is dropped.
  *
  * As with pacparser the calls are those of one thread at a time, and what went wrong is told on standard error. */

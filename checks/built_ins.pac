@@ -1,5 +1,5 @@
 // Calls each built-in function, with values of ECMA-262 5.1 and of docs/LANGUAGE.md. What it answers is DIRECT, or the
-// names of what came out otherwise. Of the names a.example alone has an address, 10.1.2.3.
+// names of what came out otherwise. Of the names a.example alone has addresses, 10.1.2.3 and 2001:db8::1.
 var wrong = "";
 
 function same(name, found, expected) {
@@ -100,6 +100,12 @@ function proxies(url, host) {
   same("dateRange", dateRange(14, "NOV", 2023, "GMT"), true);
   same("timeRange", timeRange(22, 13, 22, 14), true);
   same("alert", alert("told"), undefined);
+  same("dnsResolveEx", dnsResolveEx("a.example"), "2001:db8::1;10.1.2.3");
+  same("an address", dnsResolveEx("2001:DB8:0:0::10.0.0.01"), "2001:db8::a00:1");
+  same("no address", dnsResolveEx("b.example") + dnsResolveEx("10.0.0.256") + dnsResolveEx(null), "");
+  same("isResolvableEx", isResolvableEx("a.example") && !isResolvableEx("b.example"), true);
+  same("isInNetEx", isInNetEx("10.1.2.3", "10.0.0.0/8") && isInNetEx("2001:db8::5", "2001:db8::/32"), true);
+  same("another family", isInNetEx("10.1.2.3", "2001:db8::/32") || isInNetEx("a.example", "10.0.0.0/8"), false);
 }
 
 function FindProxyForURL(url, host) {

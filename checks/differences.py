@@ -1,7 +1,7 @@
 """Runs each script of docs/DIFFERENCES.md and compares what it comes to with what the page says that it does here.
 
 Behind each script stands a sentence with the answer here, the first one in backquotes behind the word 'here'. Before it
-may stand a URL and a moment; the others are those below.
+may stand a URL and a moment; the others are those below. Names have the addresses of an example.
 """
 import os
 import re
@@ -12,6 +12,7 @@ import tempfile
 from examples import PROGRAM
 
 URL = "http://a.example/"
+NAMES = "examples/by_family.names"
 MOMENTS = {"23:00": 1700089200, "13:30": 1700055000, "9:00": 1700038800}
 MOMENTS |= {"a Saturday": 1700300000, "15 March": 1710504000}
 SCRIPT = re.compile(r"^( *)```\n(.*?)^ *```\n\n(.*?)(?:\n\n|\Z)", re.M | re.S)
@@ -31,7 +32,7 @@ def url_of(sentence):
 
 def words_of(sentence):
     moment = next((seconds for name, seconds in MOMENTS.items() if re.search(rf"\b([Aa]t|On) {name}", sentence)), None)
-    return [url_of(sentence), "--names", os.devnull, *(["--now", str(moment)] if moment else [])]
+    return [url_of(sentence), "--names", NAMES, *(["--now", str(moment)] if moment else [])]
 
 
 def lines_of(script, sentence):

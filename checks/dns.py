@@ -29,6 +29,8 @@ host-record=a.example,10.1.2.3
 cname=www.example,web.example
 cname=web.example,a.example
 txt-record=text.example,words
+host-record=both.example,10.1.2.4,2001:db8::4
+host-record=v6.example,2001:db8::6
 """
 # the addresses of a name, which don't fit a datagram, so that they come over TCP
 MANY = [f"10.0.0.{last}" for last in range(1, 61)]
@@ -40,6 +42,9 @@ ASKED = [
     ("www.example", b"address 10.1.2.3\n", 0),
     ("none.example", b"no address\n", 0),
     ("text.example", b"no address\n", 0),
+    ("both.example", b"address 10.1.2.4\n", 0),
+    ("v6.example", b"no address\n", 0),
+    ("2001:db8::4", b"no address\n", 0),
     ("300.1.1.1", b"no address\n", 0),
     ("10.0.0.1", b"address 10.0.0.1\n", 0),
 ]
@@ -135,6 +140,23 @@ def reply(number, octet=9, flags=0x8180):
     """The reply to the question, with the address 10.0.0.octet."""
     head = number.to_bytes(2, "big") + flags.to_bytes(2, "big") + bytes.fromhex("0001000100000000")
     return head + NAME + bytes.fromhex("c00c000100010000003c0004") + bytes([10, 0, 0, octet])
+
+
+# records of AAAA, with as many octets as an address has and with as many as one of IPv4 (RFC 3596, section 2.2)
+AAAA = bytes.fromhex("c00c001c00010000003c0010") + bytes(15) + b"\x01"
+SHORT_AAAA = bytes.fromhex("c00c001c00010000003c0004") + bytes(4)
+
+
+def beside(number, *records):
+    """The reply with these records before its own one."""
+    front, mark, own = reply(number).partition(NAME)
+    return front[:7] + bytes([1 + len(records)]) + front[8:] + mark + b"".join(records) + own
+
+
+def of_ipv6(number, *records):
+    """A reply with the question for the IPv6 address, and with these records."""
+    head = number.to_bytes(2, "big") + bytes([0x81, 0x80, 0, 1, 0, len(records), 0, 0, 0, 0])
+    return head + NAME[:-4] + b"\0\x1c\0\x01" + b"".join(records)
 
 
 def compare(failures, name, found, expected):
@@ -238,6 +260,9 @@ HOSTILE = {
     "forged, then the reply": (lambda number, place: [reply(number ^ 1, 8), reply(number)], PATIENT, ADDRESS, 0, 1),
     "doubled": (lambda number, place: [reply(number), reply(number, 8)], PATIENT, ADDRESS, 0, 1),
     "a flood of 10,000": (lambda number, place: flood(number, 10_000), PATIENT, ADDRESS, 0, 1),
+    "an IPv6 address before": (lambda number, place: [beside(number, AAAA, SHORT_AAAA)], PATIENT, ADDRESS, 0, 1),
+    "the question for IPv6": (lambda number, place: [of_ipv6(number, AAAA)], ONCE, UNANSWERED, 5, 1),
+    "that with an IPv4 address": (lambda number, place: [of_ipv6(number, reply(number)[-16:])], ONCE, UNANSWERED, 5, 1),
 }
 
 

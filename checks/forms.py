@@ -16,7 +16,7 @@ QUAD = rb"(?:[0-9]{1,3}\.){3}[0-9]{1,3}"
 END = (
     rb"(?:result (?P<result>" + TEXT + rb")\n(?P<tries>(?:try " + ENTRY + rb"\n)+)"
     rb"|fault (?P<fault>F[0-9]+ [A-Za-z]+) at (?P<place>[0-9]+:[0-9]+)(?: (?P<detail>" + TEXT + rb"))?\n"
-    rb"|unanswered (?P<unanswered>" + NAME + rb")\n)"
+    rb"|unanswered (?P<unanswered>" + NAME + rb"(?: AAAA)?)\n)"
 )
 BLOCK = re.compile(
     rb"url (?P<number>[0-9]+) (?P<url>" + TEXT + rb")\n(?P<alerts>(?:alert " + TEXT + rb"\n)*)" + END

@@ -94,7 +94,10 @@ RULES = [
     ("for (name in { a: 1 }) return name; return host;", []),
     ("try { throw host; } catch (window) { return window; } return host;", []),
     ("var f = function JSON() { return JSON; }; return host;", []),
-    ("return typeof dnsResolveEx == 'undefined' ? host : url;", ["2:15: dnsResolveEx"]),
+    ("return typeof myIpAddressEx == 'undefined' ? host : url;", ["2:15: myIpAddressEx"]),
+    ("return dnsResolveEx(host) + isResolvableEx(host);", []),
+    ("return getClientVersion() + sortIpAddressList(host);", ["2:8: getClientVersion", "2:29: sortIpAddressList"]),
+    ("return new dnsResolveEx(host);", ["2:12: dnsResolveEx"]),
     ("return undefined === null ? host : url;", []),
     ("return navigator.userAgent + document.title;", ["2:8: navigator", "2:30: document"]),
     # properties: by name alone, or by the object before them
@@ -119,6 +122,10 @@ RULES = [
     ("return isInNet(host, '10.0.0.0', '/8');", ["2:34: /8"]),
     ("return isInNet(host, '10.0.0.256', '255.0.0');", ["2:22: 10.0.0.256", "2:36: 255.0.0"]),
     ("return isInNet('10', '10.0.0.0', '255.0.0.0');", []),
+    # prefixes
+    ("return isInNetEx(host, '10.0.0.0');", ["2:24: 10.0.0.0"]),
+    ("return isInNetEx(host, '2001:db8::', '32');", ["2:24: 2001:db8::"]),
+    ("return isInNetEx('::1', '::/0');", []),
     # schemes
     ("return url.substring(0, 7) == 'gopher:';", ["2:31: gopher:"]),
     ("return url.substring(0, 6) == 'https:';", []),
@@ -141,6 +148,9 @@ WHOLE = [
     (b"function FindProxyForURL(url, host) { switch (url) { case host: default: return url; } }", []),
     (b"function FindProxyForURL(url, host) { try { return url; } finally { alert(host); } }", []),
     (b"function FindProxyForURL(url, host) { return; }", ["1:1: FindProxyForURL"]),
+    (b"function FindProxyForURLEx(url, host) { }", ["1:1: FindProxyForURLEx"]),
+    (b"function FindProxyForURLEx(url, host) { return host; }", []),
+    (b"function FindProxyForURLs(url, host) { }", []),
     (
         b"function FindProxyForURL(url, host) {\n"
         b"  var now = new Date();\n"

@@ -62,7 +62,7 @@ FILES = {
     "company.pac": contents("examples/company.pac"),
     "company.batch": COMPANY,
     "built_ins.pac": contents("checks/built_ins.pac"),
-    "built_ins.names": b"a.example 10.1.2.3\n",
+    "built_ins.names": b"a.example 10.1.2.3\na.example 2001:db8::1\n",
 }
 # the words of a run, what it writes and its status; a server is asked where the words have an option for it, behind a
 # silent one where that is the option for a second

@@ -6,6 +6,7 @@ does; without gcc the check says 'skipped'.
 """
 import hashlib
 import os
+import re
 import shutil
 import subprocess
 import sys
@@ -116,7 +117,7 @@ def is_the_same_each_time(copy):
 def has_all_in_its_archive(copy):
     archive = copy.release()
     with open("CHANGELOG.md", encoding="utf-8") as file:
-        version = next(line.split()[1] for line in file if line.startswith("## "))
+        version = next(line.split()[1] for line in file if re.match(r"## \d", line))
     expect("its name", archive, f"pac-{version}-x86_64.tar.gz")
     with tarfile.open(copy.path(f"top/{archive}")) as packed:
         packed.extractall(copy.path("unpacked"), filter="data")

@@ -7,7 +7,9 @@ import socket
 
 from resolve import reply
 
-IN, ADDRESS, ALIAS = 1, 1, 5
+IN, ADDRESS, ALIAS, ADDRESS6 = 1, 1, 5, 28
+# the octets of an address by the type of its records, and how it is written
+LENGTHS, FAMILIES = {ADDRESS: 4, ADDRESS6: 16}, {ADDRESS: socket.AF_INET, ADDRESS6: socket.AF_INET6}
 LONGEST, STEPS = 512, 16
 
 
@@ -32,9 +34,18 @@ def name_at(message, at):
     return labels, behind or at + 1
 
 
-def record_at(message, at):
+def kind_of(question):
+    """The type that a question asks for."""
+    return question[name_at(question, 12)[1] + 1]
+
+
+def octets_of(address):
+    return socket.inet_pton(socket.AF_INET6 if ":" in address else socket.AF_INET, address)
+
+
+def record_at(message, at, asked):
     """A record (owner, type, its alias or the octets of its data) and the offset behind it, or None. Of another class
-    than IN it has no type.
+    than IN it has no type. The length of an address is that of its type where it is A or the asked one.
     """
     owner = name_at(message, at)
     if owner is None or owner[1] + 10 > len(message):
@@ -45,7 +56,7 @@ def record_at(message, at):
     if end > len(message):
         return None
     data = message[begin:end]
-    if space == IN and kind == ADDRESS and length != 4:
+    if space == IN and kind in (ADDRESS, asked) and length != LENGTHS[kind]:
         return None
     if space == IN and kind == ALIAS:
         target = name_at(message, begin)
@@ -57,37 +68,37 @@ def record_at(message, at):
 
 def answer_in(question, datagram):
     """The address in a datagram that is a reply to the question, `-` where it says that there is none, or None."""
-    asked = name_at(question, 12)[0]
+    asked, kind = name_at(question, 12)[0], kind_of(question)
     if not 12 <= len(datagram) <= LONGEST or datagram[:2] != question[:2]:
         return None
     code = datagram[3] & 15
     if datagram[2] & 0xFA != 0x80 or code not in (0, 3) or datagram[4:6] != b"\0\1":
         return None
     found = name_at(datagram, 12)
-    if found is None or found[0] != asked or datagram[found[1] : found[1] + 4] != bytes([0, ADDRESS, 0, IN]):
+    if found is None or found[0] != asked or datagram[found[1] : found[1] + 4] != bytes([0, kind, 0, IN]):
         return None
     if code == 3:
         return "-"
     records, at = [], found[1] + 4
     for _ in range(int.from_bytes(datagram[6:8], "big")):
-        read = record_at(datagram, at)
+        read = record_at(datagram, at, kind)
         if read is None:
             return None
         records.append(read[0])
         at = read[1]
-    return address_of(asked, records)
+    return address_of(asked, kind, records)
 
 
-def address_of(name, records):
-    """The address of a name by the records, along its aliases."""
+def address_of(name, asked, records):
+    """The address of a name by the records of the asked type, along its aliases."""
     for _ in range(STEPS):
         alias = next((data for owner, kind, data in records if kind == ALIAS and owner == name), None)
         if alias is None:
             break
         name = alias
-    found = (data for owner, kind, data in records if kind == ADDRESS and owner == name)
+    found = (data for owner, kind, data in records if kind == asked and owner == name)
     address = next(found, None)
-    return socket.inet_ntoa(address) if address else "-"
+    return socket.inet_ntop(FAMILIES[asked], address) if address else "-"
 
 
 def record(owner, kind, data, space=IN):
@@ -116,7 +127,7 @@ def along_aliases(chance, question, address):
     """The name's alias and the alias's address, in any order."""
     alias = b"\x04here\x07example\0"
     records = [record(b"\xc0\x0c", ALIAS, alias)]
-    records += [record(alias, ADDRESS, socket.inet_aton(address))] if address else []
+    records += [record(alias, kind_of(question), octets_of(address))] if address else []
     chance.shuffle(records)
     return with_records(question, records)
 
@@ -124,12 +135,21 @@ def along_aliases(chance, question, address):
 def among_others(chance, question, address):
     """The address among records of other types, classes and names."""
     others = [record(b"\xc0\x0c", 16, b"\x04text"), record(b"\xc0\x0c", ADDRESS, b"\x0a\x09\x09\x09", 3)]
-    others += [record(b"\x05other\0", ADDRESS, b"\x0a\x09\x09\x08"), record(b"\xc0\x0c", 28, bytes(16))]
-    own = [record(b"\xc0\x0c", ADDRESS, socket.inet_aton(address))] if address else []
+    kind = kind_of(question)
+    other = ADDRESS + ADDRESS6 - kind
+    others += [record(b"\x05other\0", kind, bytes(LENGTHS[kind])), record(b"\xc0\x0c", other, bytes(LENGTHS[other]))]
+    own = [record(b"\xc0\x0c", kind, octets_of(address))] if address else []
     return with_records(question, others[: chance.randrange(5)] + own + others[chance.randrange(5) :])
 
 
 SOUND = [plain, plain, in_capitals, with_more_behind, along_aliases, among_others]
+NEAR = ["10.0.0.1", "172.16.5.4", "2001:db8::1", "::ffff:10.0.0.1"]
+
+
+def address_in(chance, question):
+    """An address of the asked family, or none."""
+    address = chance.choice([None, *NEAR[:2]])
+    return address and NEAR[NEAR.index(address) + (2 if kind_of(question) == ADDRESS6 else 0)]
 
 
 def cut(chance, question):
@@ -174,8 +194,8 @@ class Calm:
 
     def datagrams(self, asked):
         chance = random.Random(f"{self.seed} {asked.name}")
-        address = chance.choice([None, "10.0.0.1", f"192.168.{chance.randrange(256)}.{chance.randrange(256)}"])
         question = asked.datagram
+        address = address_in(chance, question)
         makers = [cut, strange, flipped, flipped]
         found = [chance.choice(makers)(chance, question) for _ in range(chance.choice([0, 0, 1, 3]))]
         found.append(chance.choice(SOUND)(chance, question, address))
@@ -204,7 +224,7 @@ class Rough:
 
     def __call__(self, asked):
         of_name = random.Random(f"{self.seed} {asked.name}")
-        first, address = of_name.choice([1, 1, 1, 2, 3, 99]), of_name.choice([None, "10.0.0.1", "172.16.5.4"])
+        first, address = of_name.choice([1, 1, 1, 2, 3, 99]), address_in(of_name, asked.datagram)
         sound = of_name.choice(SOUND)(of_name, asked.datagram, address)
         self.told[asked.name] = answer_in(asked.datagram, sound)
         chance = random.Random(f"{self.seed} {asked.name} {asked.turn}")

@@ -2,8 +2,9 @@
 and servers that delay, lose, double, reorder and forge, or are silent.
 
 The large batch has 256 URLs, whose script asks for the name of each host and for one of ten that they share; what is
-written is compared whole with what this file computes. Without dnsmasq (a Debian package) its part says 'skipped'. The
-commands are run as `./pac`, or as the words of the environment's PAC.
+written is compared whole with what this file computes. A name that is asked for its IPv6 address stands in this file
+with ` AAAA` behind it, as in reports. Without dnsmasq (a Debian package) its part says 'skipped'. The commands are run
+as `./pac`, or as the words of the environment's PAC.
 """
 import collections
 import heapq
@@ -71,27 +72,43 @@ def resolve(port, script, urls, *options):
     return resolve_at(f"127.0.0.1:{port}", script, urls, *options)
 
 
+# the types of questions and records (RFC 1035, section 3.2.2, and RFC 3596, section 2.1)
+TYPES = {"": b"\0\x01", "AAAA": b"\0\x1c"}
+
+
 def name_in(datagram):
     """The name of a question's datagram."""
     labels, at = [], 12
     while datagram[at] > 0:
         labels.append(datagram[at + 1 : at + 1 + datagram[at]].decode("ascii"))
         at += 1 + datagram[at]
-    return ".".join(labels)
+    return ".".join(labels) + " AAAA" * (datagram[at + 1 : at + 3] == TYPES["AAAA"])
 
 
 def question(number, name):
     """The datagram that asks for the address of a name (RFC 1035, section 4.1)."""
+    name, _, kind = name.partition(" ")
     labels = b"".join(bytes([len(label)]) + label.encode() for label in name.split("."))
-    return number.to_bytes(2, "big") + bytes.fromhex("01000001000000000000") + labels + bytes.fromhex("0000010001")
+    return number.to_bytes(2, "big") + bytes.fromhex("01000001000000000000") + labels + b"\0" + TYPES[kind] + b"\0\x01"
+
+
+def record(address):
+    """The record of an address, of the name that was asked."""
+    is_6 = ":" in address
+    octets = socket.inet_pton(socket.AF_INET6 if is_6 else socket.AF_INET, address)
+    return b"\xc0\x0c" + TYPES["AAAA" * is_6] + bytes.fromhex("00010000003c00") + bytes([len(octets)]) + octets
+
+
+def reply_of(datagram, *records):
+    """The reply to a question with these records, and without any that the name has none of their type."""
+    return datagram[:2] + bytes([0x81, 0x80, 0, 1, 0, len(records), 0, 0, 0, 0]) + datagram[12:] + b"".join(records)
 
 
 def reply(datagram, address):
     """The reply to a question with this address, or that there is no such name."""
-    flags, count = (0x8183, 0) if address is None else (0x8180, 1)
-    head = datagram[:2] + flags.to_bytes(2, "big") + bytes([0, 1, 0, count, 0, 0, 0, 0])
-    record = bytes.fromhex("c00c000100010000003c0004") + socket.inet_aton(address) if address else b""
-    return head + datagram[12:] + record
+    if address is None:
+        return datagram[:2] + bytes([0x81, 0x83, 0, 1, 0, 0, 0, 0, 0, 0]) + datagram[12:]
+    return reply_of(datagram, record(address))
 
 
 def answer(asked):
@@ -323,6 +340,8 @@ def with_dnsmasq(failures):
         print("checks/resolve: dnsmasq is missing, its part is skipped")
         return 0
     records = "".join(f"host-record={name},{address}\n" for name, address in ADDRESSES.items() if address)
+    records += "".join(f"host-record={','.join([name, *filter(None, both)])}\n" for name, both in FAMILIES.items()
+                       if any(both))
     with tempfile.TemporaryDirectory() as folder:
         port, settings = free_port(), os.path.join(folder, "dnsmasq.conf")
         with open(settings, "w", encoding="ascii") as file:
@@ -335,10 +354,129 @@ def with_dnsmasq(failures):
             compare(failures, "256 URLs, dnsmasq", resolve(port, *LARGE, *LOSSY), (LARGE_REPORT, 0))
             found = resolve(free_port(), *LARGE, second(port), *LOSSY)
             compare(failures, "256 URLs, dnsmasq the second", found, (LARGE_REPORT, 0))
+            compare(failures, "both families, dnsmasq", resolve(port, *BY_FAMILY, *LOSSY), (FAMILY_REPORT, 0))
         finally:
             server.terminate()
             server.wait(timeout=10)
-    return 2
+    return 3
+
+
+# the proxies of a host are its addresses, in the order in which dnsResolveEx tells them
+ALL_ADDRESSES = """function FindProxyForURLEx(url, host) {
+  var found = dnsResolveEx(host).split(";"), list = [];
+  for (var i = 0; i < found.length; i++)
+    list.push("PROXY " + (found[i].indexOf(":") < 0 ? found[i] : "[" + found[i] + "]") + ":80");
+  return isResolvableEx(host) ? list.join("; ") : "DIRECT";
+}
+"""
+# names with both addresses, with one alone, and with none
+FAMILIES = {
+    "both.example": ("10.0.0.1", "2001:db8::1"),
+    "v4.example": ("10.0.0.4", None),
+    "v6.example": (None, "2001:db8:0:1::6"),
+    "none.example": (None, None),
+}
+FAMILY_ENDS = {
+    "both.example": ("result PROXY [2001:db8::1]:80; PROXY 10.0.0.1:80", 3),
+    "v4.example": ("result PROXY 10.0.0.4:80", 3),
+    "v6.example": ("result PROXY [2001:db8:0:1::6]:80", 3),
+    "none.example": ("result DIRECT", 3),
+    # hosts that are addresses, of which nobody is asked
+    "10.0.0.9": ("result PROXY 10.0.0.9:80", 1),
+    "[2001:db8::9]": ("result PROXY [2001:db8::9]:80", 1),
+}
+BY_FAMILY = (ALL_ADDRESSES, [f"http://{host}/" for host in FAMILY_ENDS])
+FAMILY_REPORT = report(*((f"http://{host}/", *end) for host, end in FAMILY_ENDS.items()))
+
+
+def by_family(asked):
+    """What a server has of the names above: an address, no record of the asked type, or no such name."""
+    name, _, kind = asked.name.partition(" ")
+    address = FAMILIES[name][kind == "AAAA"]
+    if any(FAMILIES[name]):
+        return [(0, reply_of(asked.datagram, *([record(address)] if address else [])))]
+    return [(0, reply(asked.datagram, None))]
+
+
+def of_one_type(kind):
+    """The same for the questions of one type, and silence for the others."""
+    return lambda asked: by_family(asked) if asked.name.endswith(" AAAA") == (kind == "AAAA") else []
+
+
+def with_records(*records):
+    """Replies with these records for AAAA, each an address or octets, and with the address for A."""
+    octets = [record(it) if isinstance(it, str) else it for it in records]
+    return lambda asked: [(0, reply_of(asked.datagram, *octets))] if " " in asked.name else by_family(asked)
+
+
+def cut_record(address, length):
+    """The record of an address with so many octets of data in place of its own."""
+    whole = record(address)
+    return whole[:11] + bytes([length]) + whole[12:].ljust(length, b"\0")[:length]
+
+
+# an alias of the asked name for a name that ends it, and the address of that one
+ALIAS = bytes.fromhex("c00c000500010000003c0004") + b"\x01x\xc0\x0c"
+
+
+def of_alias(address):
+    """The record of an address of x.both.example, which an alias led to."""
+    return b"\x01x" + record(address)
+
+
+B6 = "http://both.example/"
+WHOLE_6, SILENT_6 = FAMILY_ENDS["both.example"], ("unanswered both.example AAAA", 1)
+ALONE_4 = ("result PROXY 10.0.0.1:80", 3)
+# servers: what they send, what both.example comes to, the status, how often each name is asked
+ONE_TRY = ["--wait=10", "--tries=1"]
+FAMILY_SERVERS = {
+    "AAAA is silent": (of_one_type("A"), SILENT_6, 5),
+    "A is silent": (of_one_type("AAAA"), ("unanswered both.example", 2), 5),
+    "an A record before": (with_records("10.9.9.9", "2001:db8::1", "2001:db8::2"), WHOLE_6, 0),
+    "A records alone": (with_records("10.9.9.9"), ALONE_4, 0),
+    "AAAA of four octets": (with_records(cut_record("2001:db8::1", 4)), SILENT_6, 5),
+    "AAAA of fifteen octets": (with_records(cut_record("2001:db8::1", 15)), SILENT_6, 5),
+    "an A record of sixteen octets": (with_records(cut_record("10.9.9.9", 16), "2001:db8::1"), SILENT_6, 5),
+    "a chain": (with_records(ALIAS, "2001:db8::9", of_alias("10.9.9.9"), of_alias("2001:db8::1")), WHOLE_6, 0),
+    "a chain to A alone": (with_records(ALIAS, "2001:db8::9", of_alias("10.9.9.9")), ALONE_4, 0),
+    "the question of A": (
+        lambda asked: [(0, reply_of(question(int.from_bytes(asked.datagram[:2], "big"), "both.example"),
+                                    record("10.9.9.9")))] if " " in asked.name else by_family(asked),
+        SILENT_6, 5,
+    ),
+}
+# a script that tells whether it was told the addresses in their order, and one whose tests ask nobody
+TRUE_ADDRESSES = """function FindProxyForURLEx(u, h) {
+  return "PROXY " + (dnsResolveEx(h) == "2001:db8::1;10.0.0.1") + ":1"; }
+"""
+IN_NETS = """function FindProxyForURL(u, h) {
+  return "PROXY " + isInNetEx("2001:db8::5", "2001:db8::/32") + ":1; PROXY " + isInNetEx("10.1.2.3", "10.0.0.0/8") +
+    ":2; PROXY " + isInNetEx("10.1.2.3", "2001:db8::/32") + ":3; PROXY " + isInNetEx(h, "10.0.0.0/8") + ":4"; }
+"""
+IN_NETS_END = "result PROXY true:1; PROXY true:2; PROXY false:3; PROXY false:4"
+
+
+def with_families(failures):
+    server = Server(by_family)
+    found = server.resolved(*BY_FAMILY, *PATIENT)
+    compare(failures, "both families", found, (FAMILY_REPORT, 0))
+    wanted = [f"{name}{kind}" for kind in (" AAAA", "") for name in FAMILIES]
+    if list(server.questions) != wanted or counts_of(server) != {1} or not server.is_sound():
+        failures.append(f"both families: the questions were {dict(server.questions)}")
+    for name, (make, end, status) in FAMILY_SERVERS.items():
+        server = Server(make)
+        options = ONE_TRY if status else PATIENT
+        compare(failures, name, server.resolved(ALL_ADDRESSES, [B6], *options), (report((B6, *end)), status))
+        if not server.is_sound():
+            failures.append(f"{name}: the questions were {dict(server.questions)}")
+    found = Server(by_family).resolved(TRUE_ADDRESSES, [B6], *PATIENT)
+    compare(failures, "the addresses in their order", found, (report((B6, "result PROXY true:1", 3)), 0))
+    server = Server(nothing)
+    found = server.resolved(IN_NETS, [B6], *PATIENT)
+    compare(failures, "prefixes", found, (report((B6, IN_NETS_END, 1)), 0))
+    if server.questions:
+        failures.append(f"prefixes: the questions were {dict(server.questions)}")
+    return 3 + len(FAMILY_SERVERS)
 
 
 ADDRESS = """function FindProxyForURL(url, host) {
@@ -520,7 +658,7 @@ def without_a_server(failures):
 def main():
     failures = []
     parts = [with_scripted_servers, with_pairs, beside_a_silent_server, with_dnsmasq, with_small_batches]
-    parts += [with_small_pairs, with_other_sockets, with_a_dead_name, without_a_server]
+    parts += [with_small_pairs, with_other_sockets, with_a_dead_name, without_a_server, with_families]
     count = sum(part(failures) for part in parts)
     for failure in failures:
         print(f"checks/resolve: {failure}")

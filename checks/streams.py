@@ -363,6 +363,18 @@ def with_batches(failures, batch):
     return len(BATCHES)
 
 
+def with_both_families(failures, batch):
+    """A name whose responses are truncated in both families is asked twice over one stream."""
+    addresses = dict(zip(["both.example", "both.example AAAA"], resolve.FAMILIES["both.example"]))
+    with Server(always, sends(lambda asked: [reply(asked, addresses[name_in(asked)])])) as server:
+        found = batch(server.port, resolve.ALL_ADDRESSES, [resolve.B6], *PATIENT)
+    compare(failures, "both families", found, (report_of([resolve.B6], [resolve.WHOLE_6]), 0))
+    counted(failures, "both families", server, 2, 2)
+    if [name_in(asked) for asked in server.streamed] != [*addresses][::-1] or len(server.connections) != 1:
+        failures.append(f"both families: {server.streamed} came over {len(server.connections)} connections")
+    return 1
+
+
 def with_the_large_batch(failures, batch):
     """All 266 names of 256 URLs are truncated, and answered over one stream: at once, or in an order of chance. A busy
     machine may drop a datagram, so that a name is asked once more by UDP.
@@ -452,8 +464,14 @@ class Resolver:
             self.framed.add(name)
             self.send(framed(asked))
         if flags[0] & 2 == 0 and flags[1] & 15 in (0, 3):
-            self.answers[name] = socket.inet_ntoa(message[len(asked) + 12 :][:4]) if flags[1] & 15 == 0 else None
+            self.answers[name] = self.address_in(name, message[len(asked) + 12 :]) if flags[1] & 15 == 0 else None
             del self.ages[name]
+
+    @staticmethod
+    def address_in(name, data):
+        """The address of the asked type at the front of a record's data."""
+        is_6 = name.endswith(" AAAA")
+        return socket.inet_ntop(socket.AF_INET6 if is_6 else socket.AF_INET, data[: 16 if is_6 else 4])
 
     def send(self, octets):
         try:
@@ -489,6 +507,10 @@ def played_batch(port, script, urls, *options):
         told = {name: (f"result PROXY {address}:80", 2) for name, address in answers.items()}
         ends = [told.get(name, (f"unanswered {name}", 1)) for name in hosts]
         return report_of(urls, ends), 0 if len(answers) == len(hosts) else 5
+    if script == resolve.ALL_ADDRESSES:
+        answers = Resolver(port, [f"{hosts[0]} AAAA", hosts[0]], *options).run()
+        told = [(f"result PROXY [{answers.get(f'{name} AAAA')}]:80; PROXY {answers.get(name)}:80", 3) for name in hosts]
+        return report_of(urls, told), 0
     answers = Resolver(port, [*resolve.ADDRESSES], *options).run()
     return (resolve.LARGE_REPORT, 0) if answers == resolve.ADDRESSES else (repr(answers).encode(), 5)
 
@@ -497,7 +519,7 @@ def main():
     failures, is_played = [], "--played" in sys.argv[1:]
     ask, batch = (played_ask, played_batch) if is_played else (dns.ask, resolve.resolve)
     count = sum(part(failures, ask) for part in [with_truncating_servers, with_two_servers, without_a_connection])
-    count += sum(part(failures, batch) for part in [with_batches, with_the_large_batch])
+    count += sum(part(failures, batch) for part in [with_batches, with_both_families, with_the_large_batch])
     for failure in failures:
         print(f"checks/streams: {failure}")
     print(f"checks/streams: {count} passed" if not failures else f"checks/streams: {len(failures)} failed of {count}")

@@ -36,6 +36,7 @@ struct row {
 #define FUNCTION(body) PIECE("function FindProxyForURL(url, host) { " body " }")
 #define DIRECT FUNCTION("return \"DIRECT\";")
 #define ADDRESS FUNCTION("return \"PROXY \" + dnsResolve(host) + \":80\";")
+#define BOTH FUNCTION("return dnsResolveEx(host) + dnsResolve(host) + isResolvableEx(host);")
 #define TWO FUNCTION("return dnsResolve(\"b.example\") + dnsResolve(\"A.Example.\");")
 #define CAUGHT FUNCTION("try { dnsResolve(host); } catch (e) { } finally { return \"DIRECT\"; }")
 #define ALERTS FUNCTION("alert(\"a\\n\\\\\"); alert(isResolvable(host)); return \"DIRECT\";")
@@ -63,6 +64,25 @@ static const struct row rows[] = {
      PIECE("a.example")},
     {"both are told", FIND_PROXY, TWO, A, PIECE("# today\nB.example. 10.0.0.2\r\n\na.example\t10.0.0.1"), USUAL,
      PAC_DONE, REPORT("result 10.0.0.210.0.0.1\ntry DIRECT\n")},
+    {"a name that isn't told, of both families", FIND_PROXY, BOTH, A, NOTHING, USUAL, PAC_NAME_WANTED,
+     PIECE("a.example")},
+    {"both families are told", FIND_PROXY, BOTH, A, PIECE("a.example 10.0.0.1\na.example 2001:DB8::0:1\n"), USUAL,
+     PAC_DONE, REPORT("result 2001:db8::1;10.0.0.110.0.0.1true\ntry DIRECT\n")},
+    {"IPv4 alone is told", FIND_PROXY, BOTH, A, PIECE("a.example 10.0.0.1"), USUAL, PAC_DONE,
+     REPORT("result 10.0.0.110.0.0.1true\ntry DIRECT\n")},
+    {"IPv6 alone is told", FIND_PROXY, BOTH, A, PIECE("a.example ::1.2.3.4"), USUAL, PAC_DONE,
+     REPORT("result ::102:304nulltrue\ntry DIRECT\n")},
+    {"that there is no address is told", FIND_PROXY, BOTH, A, PIECE("a.example -"), USUAL, PAC_DONE,
+     REPORT("result nullfalse\ntry DIRECT\n")},
+    {"IPv6, and no address of IPv4", FIND_PROXY, BOTH, A, PIECE("a.example -\na.example ::1"), USUAL, PAC_DONE,
+     REPORT("result ::1nulltrue\ntry DIRECT\n")},
+    {"IPv6 alone, where IPv4 is asked for", FIND_PROXY, ADDRESS, A, PIECE("a.example ::1"), USUAL, PAC_DONE,
+     REPORT("result PROXY null:80\ntry PROXY null:80\n")},
+    {"another name's IPv6 address", FIND_PROXY, BOTH, A, PIECE("b.example ::1"), USUAL, PAC_NAME_WANTED,
+     PIECE("a.example")},
+    {"the entry function for IPv6", FIND_PROXY,
+     PIECE("function FindProxyForURL(u, h) { return 7; } function FindProxyForURLEx(u, h) { return \"DIRECT\"; }"), A,
+     NOTHING, USUAL, PAC_DONE, DIRECT_REPORT},
     {"no catch sees that a name is wanted", FIND_PROXY, CAUGHT, A, NOTHING, USUAL, PAC_NAME_WANTED, PIECE("a.example")},
     {"no alert where a name is wanted", FIND_PROXY, ALERTS, A, NOTHING, USUAL, PAC_NAME_WANTED, PIECE("a.example")},
     {"alerts", FIND_PROXY, ALERTS, A, PIECE("a.example -"), USUAL, PAC_DONE,
@@ -97,6 +117,10 @@ static const struct row rows[] = {
      PIECE("refused names 1 BadLine\n")},
     {"a name twice", FIND_PROXY, DIRECT, A, PIECE("a.example -\n\nA.EXAMPLE. 10.0.0.1"), USUAL, PAC_BAD_NAMES,
      PIECE("refused names 3 Twice\n")},
+    {"an IPv6 address twice", FIND_PROXY, DIRECT, A, PIECE("a.example ::1\na.example -\na.example 0::1"), USUAL,
+     PAC_BAD_NAMES, PIECE("refused names 3 Twice\n")},
+    {"an IPv6 address in brackets", FIND_PROXY, DIRECT, A, PIECE("a.example [::1]"), USUAL, PAC_BAD_NAMES,
+     PIECE("refused names 1 BadLine\n")},
     {"the names before the URL", FIND_PROXY, DIRECT, PIECE("a:"), PIECE("a"), USUAL, PAC_BAD_NAMES,
      PIECE("refused names 1 BadLine\n")},
     {"no URL", FIND_PROXY, DIRECT, NOTHING, NOTHING, USUAL, PAC_BAD_URL, BAD_URL},

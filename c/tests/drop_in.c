@@ -82,6 +82,23 @@ static void expect_names(void) {
   expect_answer("http://a.example/", "255.255.255.255");
 }
 
+static void expect_both_families(void) {
+  parse("return dnsResolveEx(host) + isResolvableEx(\"gone.example\");");
+  expect_answer("http://both.example.net/", "2001:db8::4;10.1.2.4false");
+  expect_answer("http://build.example.net/", "10.1.2.3false");
+  expect_answer("http://v6.example.net/", "2001:db8::6false");
+  expect_answer("http://[2001:DB8::5]/", "2001:db8::5false");
+  expect(pacparser_find_proxy("http://silent.example/", NULL) == NULL, "a name whose look-up fails");
+  expect_said("pacparser_find_proxy: unanswered silent.example\n");
+  parse("return \"\" + dnsResolve(host) + isInNetEx(\"2001:db8::5\", \"2001:db8::/32\");");
+  expect_answer("http://v6.example.net/", "nulltrue");
+  /* as many names as a run may ask for both addresses of, each of 253 bytes, with the longest ones */
+  parse("for (var l = \"\"; l.length < 63; ) l += \"l\"; var end = \".\" + l + \".\" + l + \".\" + l.substring(15);"
+        "for (var n = 10; n < 26; n++) isResolvableEx(n + l.substring(2) + end + \".long.example\");"
+        "return dnsResolveEx(\"25\" + l.substring(2) + end + \".long.example\");");
+  expect_answer("http://a.example/", "ffff:ffff:ffff:ffff:ffff:ffff:ffff:ffff;255.255.255.255");
+}
+
 static void expect_my_ip(void) {
   parse("return myIpAddress();");
   expect_answer("http://a.example/", "192.0.2.7");
@@ -105,6 +122,8 @@ static void expect_faults(void) {
   expect_fault("throw \"x\";", "pacparser_find_proxy: fault F13 Uncaught at 1:39 x\n");
   expect_fault("for (var i = 0; ; i++) isResolvable(\"a\" + i);",
                "pacparser_find_proxy: fault F3 TooManyNames at 1:74\n");
+  expect_fault("for (var i = 0; ; i++) isResolvableEx(\"a\" + i);",
+               "pacparser_find_proxy: fault F3 TooManyNames at 1:76\n");
 }
 
 int main(void) {
@@ -112,6 +131,7 @@ int main(void) {
   expect_calls_in_disorder();
   expect_answers();
   expect_names();
+  expect_both_families();
   expect_my_ip();
   expect_zone();
   expect_faults();

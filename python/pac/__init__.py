@@ -23,6 +23,9 @@ __all__ = ["Answer", "Fault", "Proxy", "Refused", "check", "find_proxy", "look_u
 
 FUEL = 10_000_000
 
+Addresses = Union[str, "tuple[str, ...]", "list[str]", None]
+"""What is told of a name: an address, addresses of which no two are of one family, or None where it has none."""
+
 
 class Refused(ValueError):
     """A script, a URL or names are refused: as `refused script LINE:COLUMN NAME` says, `refused url BadUrl` or
@@ -43,20 +46,25 @@ class Answer:
     proxies: tuple[Proxy, ...]
     fault: Optional[Fault]
     alerts: tuple[str, ...]
-    names: Mapping[str, Optional[str]]
-    """The names that were looked up for this run, in their order, with what was told of each."""
+    names: Mapping[str, tuple[str, ...]]
+    """The names that were looked up for this run, in their order, with the addresses that were told of each."""
 
 
-def look_up(name: str) -> Optional[str]:
-    """The first address of a name, by the machine's resolver; None where it has none.
+def look_up(name: str) -> tuple[str, ...]:
+    """The first address of a name in each family, IPv6 first, by the machine's resolver; none where it has none.
 
     Where the resolver doesn't tell, as without a network, its error is raised: that is no name without address.
     """
+    return _first(name, socket.AF_INET6) + _first(name, socket.AF_INET)
+
+
+def _first(name: str, family: socket.AddressFamily) -> tuple[str, ...]:
+    """The first address of a name in a family, or nothing where it has none."""
     try:
-        return str(socket.getaddrinfo(name, None, socket.AF_INET)[0][4][0])
+        return (str(socket.getaddrinfo(name, None, family)[0][4][0]).partition("%")[0],)
     except socket.gaierror as error:
-        if error.errno in (socket.EAI_NONAME, socket.EAI_NODATA):
-            return None
+        if error.errno in (socket.EAI_NONAME, socket.EAI_NODATA, socket.EAI_ADDRFAMILY):
+            return ()
         raise
 
 
@@ -64,7 +72,7 @@ def find_proxy(
     script: Union[str, bytes],
     url: Union[str, bytes],
     *,
-    resolve: Callable[[str], Optional[str]] = look_up,
+    resolve: Callable[[str], Addresses] = look_up,
     names: Union[str, bytes] = b"",
     now: Optional[float] = None,
     zone_minutes: int = 0,
@@ -74,14 +82,16 @@ def find_proxy(
     """Runs a script for a URL.
 
     A name that the script asks for, and that `names` (the text of a names file) lacks, is handed to `resolve`, which
-    gives its address as a dotted quad, or None where it has none; what it raises ends the call. `now` is what clocks
-    show in the script, in seconds since 1970, by default the present moment; `zone_minutes` is how far they are ahead
-    of UTC; `my_ip` is what `myIpAddress` answers, and `fuel` bounds the steps of the run.
+    gives its address, a dotted quad or an IPv6 address, or up to two addresses, one of each family, or None where it
+    has none; what it raises ends the call. A name that `names` has a line of is not handed to it, also where that line
+    is of one family: it has no address of the other one then. `now` is what clocks show in the script, in seconds since
+    1970, by default the present moment; `zone_minutes` is how far they are ahead of UTC; `my_ip` is what `myIpAddress`
+    answers, and `fuel` bounds the steps of the run.
     """
     settings = _settings(time.time() if now is None else now, zone_minutes, my_ip, fuel)
     pieces = _octets(script), _octets(url)
     told = _octets(names)
-    looked_up: dict[str, Optional[str]] = {}
+    looked_up: dict[str, tuple[str, ...]] = {}
     while True:
         status, text = library.find_proxy(*pieces, told, settings)
         if status is Status.DONE:
@@ -89,8 +99,8 @@ def find_proxy(
         if status is not Status.NAME_WANTED:
             raise _refusal(status, text)
         name = text.decode("ascii")
-        looked_up[name] = _quad(name, resolve(name))
-        told += f"\n{name} {looked_up[name] or '-'}".encode()
+        looked_up[name] = _addresses(name, resolve(name))
+        told += "".join(f"\n{name} {address}" for address in looked_up[name] or "-").encode()
 
 
 def check(script: Union[str, bytes]) -> str:
@@ -116,15 +126,20 @@ def _settings(now: float, zone_minutes: int, my_ip: str, fuel: int) -> Settings:
     return settings
 
 
-def _quad(name: str, address: Optional[str]) -> Optional[str]:
-    """What a resolver gave, where it is an address or None."""
+def _addresses(name: str, given: object) -> tuple[str, ...]:
+    """What a resolver gave, where it is addresses of which no two are of one family."""
+    several = () if given is None else given if isinstance(given, (tuple, list)) else (given,)
     try:
-        return None if address is None else str(ipaddress.IPv4Address(str(address)))
+        found = [ipaddress.ip_address(str(address)) for address in several]
+        addresses = tuple(str(type(address)(int(address))) for address in found)
     except ValueError as error:
         raise ValueError(f"resolve({name!r}) gave no address: {error}") from None
+    if len({address.version for address in found}) < len(found):
+        raise ValueError(f"resolve({name!r}) gave two addresses of one family: {', '.join(addresses)}")
+    return addresses
 
 
-def _answer(octets: bytes, names: Mapping[str, Optional[str]]) -> Answer:
+def _answer(octets: bytes, names: Mapping[str, tuple[str, ...]]) -> Answer:
     report = report_of(octets)
     return Answer(report.url, report.result, report.proxies, report.fault, report.alerts, names)
 

@@ -86,7 +86,7 @@ class OneText(unittest.TestCase):
     @unittest.skipUnless(os.path.exists(CHANGES), "there is no list of versions")
     def test_version(self):
         with open(CHANGES, encoding="utf-8") as changes:
-            version = re.search(r"^## (\S+)", changes.read(), re.M)[1]
+            version = re.search(r"^## (\d\S*)", changes.read(), re.M)[1]
         with open(os.path.join(TOP, "python", "pyproject.toml"), encoding="utf-8") as project:
             self.assertIn(f'\nversion = "{version}"\n', project.read())
 

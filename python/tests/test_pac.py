@@ -13,6 +13,7 @@ TOP = os.path.dirname(os.path.dirname(os.path.dirname(os.path.abspath(__file__))
 EXAMPLES = os.path.join(TOP, "examples")
 DIRECT = 'function FindProxyForURL(url, host) { return "DIRECT"; }'
 ADDRESS = 'function FindProxyForURL(url, host) { return "PROXY " + dnsResolve(host) + ":80"; }'
+BOTH = 'function FindProxyForURLEx(url, host) { return dnsResolveEx(host) + " " + dnsResolve(host); }'
 TWO = """function FindProxyForURL(url, host) {
   alert("of " + host); return isResolvable("b.example") ? "PROXY " + dnsResolve(host) : "DIRECT"; }"""
 A = "http://a.example/"
@@ -49,16 +50,35 @@ class Answers(unittest.TestCase):
         addresses = {"b.example": "10.0.0.2", "a.example": "10.0.0.1"}
         self.assertEqual(found(TWO, resolve=addresses.get), pac.Answer(
             url=A, result="PROXY 10.0.0.1", proxies=(pac.Proxy("PROXY", "10.0.0.1", 80),), fault=None,
-            alerts=("of a.example",), names=addresses))
+            alerts=("of a.example",), names={name: (address,) for name, address in addresses.items()}))
 
     def test_names_are_looked_up_in_their_order_and_once(self):
         asked = []
         answer = found(TWO, resolve=lambda name: asked.append(name))
-        self.assertEqual((asked, answer.names, answer.result), (["b.example"], {"b.example": None}, "DIRECT"))
+        self.assertEqual((asked, answer.names, answer.result), (["b.example"], {"b.example": ()}, "DIRECT"))
         asked.clear()
         answer = found(TWO, resolve=lambda name: asked.append(name) or "10.0.0.3", names="# told\nb.example 10.0.0.2")
         self.assertEqual((asked, answer.result), (["a.example"], "PROXY 10.0.0.3"))
         self.assertEqual(list(answer.names), ["a.example"])
+
+    def test_a_name_is_told_whole(self):
+        rows = [
+            (("10.0.0.1", "2001:DB8::1"), "2001:db8::1;10.0.0.1 10.0.0.1"),
+            (["2001:db8::1", "10.0.0.1"], "2001:db8::1;10.0.0.1 10.0.0.1"),
+            ("10.0.0.1", "10.0.0.1 10.0.0.1"),
+            (("2001:db8::1",), "2001:db8::1 null"),
+            ("fe80::1%1", "fe80::1 null"),
+            ((), " null"),
+            (None, " null"),
+        ]
+        for given, result in rows:
+            asked = []
+            with self.subTest(given=given):
+                answer = found(BOTH, resolve=lambda name, given=given, asked=asked: asked.append(name) or given)
+                self.assertEqual((answer.result, asked), (result, ["a.example"]))
+        for names, result in [("a.example ::1", "::1 null"), ("a.example -", " null"),
+                              ("a.example ::1\nA.Example. 10.0.0.1", "::1;10.0.0.1 10.0.0.1")]:
+            self.assertEqual(found(BOTH, names=names).result, result)
 
     def test_a_fault_has_its_place_and_no_proxies(self):
         answer = found("function FindProxyForURL(url, host) {\n  return new Date().getHours() < 12; }")
@@ -148,10 +168,12 @@ class Refusals(unittest.TestCase):
             found(DIRECT, my_ip="10.0.0")
 
     def test_a_resolver_that_gives_no_address_is_told_so(self):
-        for given in ["10.0.0", "", "-", "10.0.0.1\nb.example 10.0.0.2", "::1", 7]:
+        for given in ["10.0.0", "", "-", "10.0.0.1\nb.example 10.0.0.2", "[::1]", 7, ("10.0.0.1", "-"), (None,)]:
             said = self.assertRaisesRegex(ValueError, r"^resolve\('a.example'\) gave no address")
             with self.subTest(given=given), said:
                 found(ADDRESS, resolve=lambda _, given=given: given)
+        with self.assertRaisesRegex(ValueError, r"^resolve\('a.example'\) gave two addresses of one family: ::1, ::2"):
+            found(ADDRESS, resolve=lambda _: ["::1", "::2"])
 
     def test_what_a_resolver_raises_comes_through(self):
         with self.assertRaises(AssertionError):
@@ -179,10 +201,20 @@ class OtherCalls(unittest.TestCase):
                 if expected:
                     self.assertRaises(expected, pac.look_up, "a.example")
                 else:
-                    self.assertIsNone(pac.look_up("a.example"))
-        rows = [(socket.AF_INET, socket.SOCK_STREAM, 6, "", (address, 0)) for address in ["10.0.0.1", "10.0.0.2"]]
-        with mock.patch("socket.getaddrinfo", return_value=rows):
-            self.assertEqual(pac.look_up("a.example"), "10.0.0.1")
+                    self.assertEqual(pac.look_up("a.example"), ())
+
+    def test_look_up_gives_the_first_address_of_each_family(self):
+        known = {socket.AF_INET: ["10.0.0.1", "10.0.0.2"], socket.AF_INET6: ["2001:db8::1", "fe80::1%1"]}
+
+        def told(name, port, family):
+            if not known.get(family):
+                raise socket.gaierror(socket.EAI_NODATA, "of the test")
+            return [(family, socket.SOCK_STREAM, 6, "", (address, 0)) for address in known[family]]
+
+        with mock.patch("socket.getaddrinfo", side_effect=told):
+            self.assertEqual(pac.look_up("a.example"), ("2001:db8::1", "10.0.0.1"))
+            del known[socket.AF_INET]
+            self.assertEqual(pac.look_up("a.example"), ("2001:db8::1",))
 
     def test_the_example_counts_the_urls_of_a_log(self):
         log = b"""1 TCP_MISS/200 GET http://wiki.example.com/start - HIER_DIRECT/-
