@@ -108,10 +108,23 @@ function proxies(url, host) {
   same("another family", isInNetEx("10.1.2.3", "2001:db8::/32") || isInNetEx("a.example", "10.0.0.0/8"), false);
 }
 
+function patterns(host) {
+  var p = /(b)(x)?/g, lines = /^b$/m, found = p.exec("abcb");
+  same("exec", found.join("-") + found.index + found.input + p.lastIndex, "b-b-1abcb2");
+  same("test", p.test("abcb") + "" + p.lastIndex + p.test("abcb") + p.lastIndex, "true4false0");
+  same("a pattern as a text", lines + p.source + typeof p, "/^b$/m(b)(x)?object");
+  same("match", "abAB".match(/b/gi).join() + "ab".match(/(c)|b/).length + "ab".match(/c/), "b,B2null");
+  same("search", "abcb".search(/c/) + "a".search(lines), 1);
+  same("replace by a pattern", "a-b-c".replace(/-([bc])/g, "[$1$&$`$']"), "a[b-ba-c][c-ca-b]");
+  same("split by a pattern", "a1b22c".split(/([0-9])+/).join() + "ab".split(/(?:)/).length, "a,1,b,2,c2");
+  same("a host", /^www\.(.*)$/i.exec(host)[1], host.substring(4));
+}
+
 function FindProxyForURL(url, host) {
   objects();
   arrays();
   texts();
+  patterns(host);
   errors();
   language();
   proxies(url, host);

@@ -30,6 +30,7 @@ LETTERS = {
     "ℤ": "n",
     NUMBER: "n",
     "List ℕ": "text",
+    "Literal": "literal",
     NAME: "x",
     "UpdateForm": "form",
     "UnaryOp": "op",

@@ -35,6 +35,7 @@ LEAVES = {
     "ℤ": "int",
     "List ℕ": "text",
     "List (List ℕ)": "texts",
+    "Literal": "literal",
     "BoundName": "bound_name",
     "Option BoundName": "optional_name",
     "List BoundName": "bound_names",
@@ -161,6 +162,16 @@ texts_from _ = []
 pub texts_back : (xs : List (List ℕ)) → texts_from (texts_gv xs) ≡ xs
 texts_back [] = refl
 texts_back (x ∷ xs) = cc (text_back x, texts_back xs)
+
+abbrev pub literal_gv : Literal → Gv
+literal_gv x = gcons (text_gv x.body) (text_gv x.flags)
+
+abbrev pub literal_from : Gv → Literal
+literal_from (gcons a b) = record { body = text_from a; flags = text_from b }
+literal_from _ = record { body = []; flags = [] }
+
+pub literal_back : (x : Literal) → literal_from (literal_gv x) ≡ x
+literal_back x = λ i. record { body = text_back x.body i; flags = text_back x.flags i }
 
 abbrev pub bound_gv : Bound → Gv
 bound_gv bound.Unbound = gcons (gnum 0) (gcons gnil gnil)
@@ -307,6 +318,7 @@ def write_code(types):
     out.append("use Rattle.std.proofs.Common.{sym, ap, ◌∙◌}")
     out.append("use Rattle.std.specs.Coded.{Coded}")
     out.append("use base.Stored.{Gv, gnil, gnum, gcons, num}")
+    out.append("use Rattle.js_pattern_reader.specs.Literal.{Literal}")
     out.append("use Rattle.js_tree.specs.declared.place.Place.{Place}")
     out.append("use Rattle.js_tree.specs.declared.bound.Bound.{Bound}")
     out.append("use Rattle.js_tree.specs.declared.bound.Bound.TheVariants as bound")

@@ -38,6 +38,7 @@ abbrev heap_of : List (Option Value) → HeapView
 heap_of es = record {
   objects = record { kind = Array; properties = properties_from 0 es; prototype = None; length = length es } ∷ [];
   scopes = [];
+  literals = [];
   cells = 0;
   units = 0;
 }

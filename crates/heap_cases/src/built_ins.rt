@@ -5,7 +5,7 @@ use case_rows::text;
 use object_heap::{BuiltIn, Found, Heap, Kind, ObjectId, Value};
 use std::alloc::Global;
 
-const BUILT_INS: [BuiltIn; 11] = [
+const BUILT_INS: [BuiltIn; 12] = [
     BuiltIn::Global,
     BuiltIn::ObjectPrototype,
     BuiltIn::FunctionPrototype,
@@ -17,6 +17,7 @@ const BUILT_INS: [BuiltIn; 11] = [
     BuiltIn::TypeErrorPrototype,
     BuiltIn::RangeErrorPrototype,
     BuiltIn::ReferenceErrorPrototype,
+    BuiltIn::PatternPrototype,
 ];
 
 fn built_in_named(alloc: Global, name: &str) -> Result<BuiltIn> {
@@ -85,6 +86,7 @@ pub(crate) fn object(alloc: Global, fields: &[&str]) -> Result<String> {
         Kind::Error => "Error",
         Kind::Native(_) => "Native",
         Kind::Function(..) => "Function",
+        Kind::Pattern(_) => "Pattern",
     };
     let prototype = written_built_in(alloc, &heap, heap.prototype(object))?;
     let listed = heap.own_keys(alloc, object)?.len();

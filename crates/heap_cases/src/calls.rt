@@ -2,6 +2,7 @@
 use crate::values::{refused, value_in, written, written_found};
 use anyhow::{Result, bail};
 use case_rows::{text, written_text};
+use js_pattern_reader::PatternLiteral;
 use object_heap::{Found, Heap, HeapAnswer, Kind, Marks, ObjectId, ScopeId, Value};
 use std::alloc::Global;
 use utf16_text::{Text, TextList};
@@ -133,6 +134,7 @@ impl Bench {
                 let behind = self.object(call.number);
                 self.make(alloc, Kind::Plain, Some(behind))
             }
+            "pattern" => self.make_pattern(alloc, call),
             "scope" => self.make_scope(alloc, call.number, None),
             "inner-scope" => {
                 let outer = self.heap.outer();
@@ -152,6 +154,26 @@ impl Bench {
         prototype: Option<ObjectId>,
     ) -> Result<Answer, HeapAnswer> {
         let object = self.heap.make(alloc, kind, prototype)?;
+        self.keep(object)
+    }
+
+    /// Makes the object of a pattern literal; the property is its body, and the value its flags.
+    fn make_pattern(&mut self, alloc: Global, call: &Call) -> Result<Answer, HeapAnswer> {
+        let flags = match &call.value {
+            Value::Text(flags) => flags.copy(alloc)?,
+            _ => Text::from_units(alloc, &[])?,
+        };
+        let body = call.property.copy(alloc)?;
+        match PatternLiteral::read(alloc, body, flags) {
+            Ok(literal) => {
+                let object = self.heap.make_pattern(alloc, &literal, None)?;
+                self.keep(object)
+            }
+            Err(_) => Ok(Answer::Unknown),
+        }
+    }
+
+    fn keep(&mut self, object: ObjectId) -> Result<Answer, HeapAnswer> {
         match self.objects.push(object) {
             Ok(()) => Ok(Answer::Nothing),
             Err(_) => Err(HeapAnswer::Memory),
@@ -215,6 +237,7 @@ impl Bench {
                 Answer::Value(self.heap.read_slot(alloc, scope, call.slot)?)
             }
             "outer-parent" => self.outer_parent(),
+            "literal" => self.literal(alloc, object)?,
             _ => Answer::Unknown,
         })
     }
@@ -232,6 +255,17 @@ impl Bench {
             Some(place) => Answer::Count(place as u64),
             None => Answer::None,
         }
+    }
+
+    /// The body and the flags of a pattern.
+    fn literal(&self, alloc: Global, object: ObjectId) -> Result<Answer, HeapAnswer> {
+        let Some(literal) = self.heap.literal(object) else {
+            return Ok(Answer::None);
+        };
+        let mut parts = TextList::new(alloc);
+        parts.push(alloc, literal.body().copy(alloc)?)?;
+        parts.push(alloc, literal.flags().copy(alloc)?)?;
+        Ok(Answer::Names(parts))
     }
 
     fn outer_parent(&self) -> Answer {

@@ -58,6 +58,14 @@ impl Layered {
         }
     }
 
+    /// No properties, with room for so many.
+    pub(crate) fn with_room(alloc: Global, count: usize) -> Result<Layered, Memory>
+        ensures { IfOk result (λ properties. properties ≡ []) }
+    {
+        let own = Properties::with_room(alloc, count)?;
+        Ok(Layered { table: None, own })
+    }
+
     /// The properties of these rows.
     pub(crate) fn built_in(alloc: Global, rows: &'static [TableRow]) -> Result<Layered, Memory>
         requires { NamesDiffer (entries_of (map row_read rows.now)) }

@@ -65,6 +65,24 @@ impl Object {
         }
     }
 
+    /// An object without properties, with room for so many.
+    pub fn with_room(
+        alloc: Global,
+        kind: Kind,
+        prototype: Option<ObjectId>,
+        count: usize,
+    ) -> Result<Object, Memory>
+        ensures { IfOk result (λ object. object ≡ empty_object kind prototype) }
+    {
+        let properties = Layered::with_room(alloc, count)?;
+        Ok(Object {
+            kind,
+            properties,
+            prototype,
+            length: 0,
+        })
+    }
+
     /// A built-in object with the properties of these rows.
     pub fn built_in(
         alloc: Global,

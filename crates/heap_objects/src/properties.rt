@@ -63,6 +63,16 @@ impl Properties {
         }
     }
 
+    /// No properties, with room for so many.
+    pub fn with_room(alloc: Global, count: usize) -> Result<Properties, Memory>
+        ensures { IfOk result (λ properties. properties ≡ []) }
+    {
+        let row = Vec::with_capacity(alloc, count)?;
+        Ok(Properties {
+            form: Form::Row(row),
+        })
+    }
+
     /// The property of this name.
     pub fn get(&self, name: &Text) -> Option<&Property>
         ensures { option_copied result ≡ property_at self.now name.now }

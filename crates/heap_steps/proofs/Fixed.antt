@@ -8,7 +8,7 @@ use Rattle.heap_values.specs.Views.{ObjectView}
 use Rattle.heap_objects.specs.Object.{is_deletable, is_length, marks_if}
 use Rattle.heap_elements.specs.Properties.{property_at}
 use Rattle.object_heap.specs.Heap.{kind_in, own_marks_in}
-use Rattle.js_evaluation.specs.Objects.{is_fixed_in, is_fixed_of}
+use Rattle.js_evaluation.specs.Objects.{is_fixed_in, is_fixed_of, tells_literal}
 use Rattle.heap_steps.specs.Works.{is_kept}
 
 kept : (p : Option Property) → is_kept (marks_if p) ≡ not (is_deletable p)
@@ -19,6 +19,7 @@ kept (Some p) = refl
 abbrev pub fixed_by : Kind → Option ObjectView → List ℕ → Bool
 fixed_by (kind.Function f scope) o name = bytes_eq name (codes "length")
 fixed_by (kind.Native n) o name = bytes_eq name (codes "prototype") && is_kept (own_marks_in o name)
+fixed_by (kind.Pattern n) o name = tells_literal name
 fixed_by k o name = false
 
 module _ (o : ObjectView) (name : List ℕ) where
@@ -30,6 +31,7 @@ module _ (o : ObjectView) (name : List ℕ) where
       ap (λ b. bytes_eq name (codes "prototype") && b) (kept (property_at o.properties name))
       ∙ ap (λ k. bytes_eq name (codes "prototype") && not (not (is_length k name) && is_deletable (property_at o.properties name))) (sym e)
   fixed_of kind.Error e = refl
+  fixed_of (kind.Pattern n) e = refl
 
 pub fixed : (o : Option ObjectView) (name : List ℕ) → fixed_by (kind_in o) o name ≡ is_fixed_in o name
 fixed None name = refl

@@ -77,5 +77,6 @@ fn called_if(kind: Kind, object: ObjectId) -> Option<ObjectId>
         Kind::Function(_, _) => Some(object),
         Kind::Native(_) => Some(object),
         Kind::Error => None,
+        Kind::Pattern(_) => None,
     }
 }

@@ -17,7 +17,9 @@ mod writing;
 pub use errors::{throw_error, throw_type_error};
 pub use functions::{callable, closure};
 pub use halt::{Halt, refused};
-pub use making::{define, define_as, define_at, make, make_by, make_scope, spend, test_text};
+pub use making::{
+    define, define_as, define_at, make, make_by, make_pattern, make_scope, spend, test_text,
+};
 pub use names::{delete_name, read_name, read_or_undefined, write_name};
 pub use primitives::{bits_or_fault, counted, number_or_fault, operate, stepped};
 pub use properties::{

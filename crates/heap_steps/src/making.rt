@@ -8,6 +8,7 @@ ghost use Rattle.utf16_text.specs.declared.limits.TheConstants.{LONGEST_TEXT};
 use crate::{Halt, refused};
 use heap_values::{BuiltIn, Kind, ObjectId, ScopeId, Value};
 use js_evaluation::FaultCode;
+use js_pattern_reader::PatternLiteral;
 use js_tree::Place;
 use object_heap::{Heap, Marks};
 use std::alloc::Global;
@@ -41,6 +42,22 @@ pub fn make_by(
 {
     let prototype = heap.built_in(prototype);
     make(alloc, heap, kind, prototype, place)
+}
+
+/// Makes the object of a pattern literal.
+pub fn make_pattern(
+    alloc: Global,
+    heap: &mut Heap,
+    literal: &PatternLiteral,
+    place: Place,
+) -> Result<ObjectId, Halt>
+    ensures { Works (spec.make_pattern literal.now place) heap.old result heap.new }
+{
+    let prototype = heap.built_in(BuiltIn::PatternPrototype);
+    match heap.make_pattern(alloc, literal, Some(prototype)) {
+        Ok(object) => Ok(object),
+        Err(answer) => Err(refused(answer, place)),
+    }
 }
 
 /// Makes a scope of so many names, each undefined.

@@ -23,6 +23,18 @@ const LENGTH: [u16; 6] = [108, 101, 110, 103, 116, 104];
 /// `prototype`.
 const PROTOTYPE: [u16; 9] = [112, 114, 111, 116, 111, 116, 121, 112, 101];
 
+/// `source`.
+const SOURCE: [u16; 6] = [115, 111, 117, 114, 99, 101];
+
+/// `global`.
+const GLOBAL: [u16; 6] = [103, 108, 111, 98, 97, 108];
+
+/// `ignoreCase`.
+const IGNORE_CASE: [u16; 10] = [105, 103, 110, 111, 114, 101, 67, 97, 115, 101];
+
+/// `multiline`.
+const MULTILINE: [u16; 9] = [109, 117, 108, 116, 105, 108, 105, 110, 101];
+
 /// `undefined`.
 const UNDEFINED: [u16; 9] = [117, 110, 100, 101, 102, 105, 110, 101, 100];
 
@@ -33,7 +45,18 @@ fn is_the_undefined(heap: &Heap, object: ObjectId, name: &Text) -> bool
     object.0 == heap.built_in(BuiltIn::Global).0 && is_named(name, &UNDEFINED)
 }
 
-/// Whether this is the length of a function, or the prototype of a constructor that is built in.
+/// Whether a pattern says this of its literal (ECMA-262 5.1, sections 15.10.7.1 to 15.10.7.4).
+fn tells_literal(name: &Text) -> bool
+    ensures { result ≡ spec.tells_literal name.now }
+{
+    is_named(name, &SOURCE)
+        || is_named(name, &GLOBAL)
+        || is_named(name, &IGNORE_CASE)
+        || is_named(name, &MULTILINE)
+}
+
+/// Whether this is the length of a function, the prototype of a constructor that is built in, or what a pattern says of
+/// its literal.
 fn is_fixed_in(heap: &Heap, object: ObjectId, name: &Text) -> bool
     ensures { result ≡ spec.is_fixed_in (object_at heap.now object) name.now }
 {
@@ -43,6 +66,7 @@ fn is_fixed_in(heap: &Heap, object: ObjectId, name: &Text) -> bool
         Kind::Function(_, _) => is_named(name, &LENGTH),
         Kind::Native(_) => is_named(name, &PROTOTYPE) && is_kept(heap, object, name),
         Kind::Error => false,
+        Kind::Pattern(_) => tells_literal(name),
     }
 }
 

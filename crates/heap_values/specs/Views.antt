@@ -1,6 +1,7 @@
 -- What contracts see a heap as (ECMA-262 5.1, sections 8.6 and 10.2): its objects and scopes in the order of creation,
 -- and what the run has made in it so far.
 use Rattle.std.specs.Prelude.{ℕ, List, Option}
+use Rattle.js_pattern_reader.specs.Literal.{Literal}
 use Rattle.heap_values.specs.declared.ids.Kind.{Kind}
 use Rattle.heap_values.specs.declared.ids.ObjectId.{ObjectId}
 use Rattle.heap_values.specs.declared.ids.ScopeId.{ScopeId}
@@ -20,9 +21,10 @@ pub record ScopeView : Type 0 where
   pub slots : List Value
   pub parent : Option ScopeId
 
--- a heap: cells and units count what this run has made
+-- a heap, with the literals of its patterns by their numbers; cells and units count what this run has made
 pub record HeapView : Type 0 where
   pub objects : List ObjectView
   pub scopes : List ScopeView
+  pub literals : List Literal
   pub cells : ℕ
   pub units : ℕ

@@ -16,4 +16,6 @@ pub enum BuiltIn {
     TypeErrorPrototype,
     RangeErrorPrototype,
     ReferenceErrorPrototype,
+    /// `RegExp.prototype`.
+    PatternPrototype,
 }

@@ -21,4 +21,6 @@ pub enum Kind {
     Native(u16),
     /// An error.
     Error,
+    /// A regular expression, by the number of its literal in its heap.
+    Pattern(u32),
 }

@@ -159,6 +159,7 @@ fn always_holds(e: &Expression) -> bool
         ExpressionNode::True => true,
         ExpressionNode::Number(n) => n.get() != 0,
         ExpressionNode::Text(_) => false,
+        ExpressionNode::Pattern(_) => false,
         ExpressionNode::False => false,
         ExpressionNode::Null => false,
         ExpressionNode::This => false,

@@ -34,6 +34,7 @@ not_length kind.Array name n = absurd (n refl)
 not_length (kind.Function f scope) name n = refl
 not_length (kind.Native m) name n = refl
 not_length kind.Error name n = refl
+not_length (kind.Pattern m) name n = refl
 
 by_none : (q : Option Property) → None ≡ marks_if q → true ≡ gives_way_in q
 by_none None e = refl

@@ -50,6 +50,7 @@ fn called_by<'p>(
         Kind::Plain => Ok(Now::Back(Ok(Value::Undefined))),
         Kind::Array => Ok(Now::Back(Ok(Value::Undefined))),
         Kind::Error => Ok(Now::Back(Ok(Value::Undefined))),
+        Kind::Pattern(_) => Ok(Now::Back(Ok(Value::Undefined))),
     }
 }
 
@@ -85,6 +86,7 @@ fn constructed_by<'p>(
         Kind::Plain => Ok(Now::Back(Ok(Value::Undefined))),
         Kind::Array => Ok(Now::Back(Ok(Value::Undefined))),
         Kind::Error => Ok(Now::Back(Ok(Value::Undefined))),
+        Kind::Pattern(_) => Ok(Now::Back(Ok(Value::Undefined))),
     }
 }
 

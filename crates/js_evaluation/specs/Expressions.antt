@@ -13,7 +13,7 @@ use Rattle.js_tree.specs.declared.operators.UpdateForm.{UpdateForm}
 use Rattle.js_tree.specs.declared.operators.UpdateForm.TheVariants as form
 use Rattle.js_tree.specs.declared.operators.UpdateOp.{UpdateOp}
 use Rattle.js_binding.specs.Scopes.{itself}
-use Rattle.js_tree.specs.Tree.{ExpressionTree, Number, Characters, True, False, Null, This, Name, Array, Object, Function, Numbered, Suffixed, New, Update, Unary, Chain, Conditional, Assign, Comma, absent, present, Expressions, no_expression, an_expression, Items, no_item, an_item, Properties, no_property, a_property, SuffixTree, a_member, an_index, a_call, Suffixes, no_suffix, a_suffix, Operands, no_operand, an_operand, FunctionTree, a_function}
+use Rattle.js_tree.specs.Tree.{ExpressionTree, Number, Characters, Pattern, True, False, Null, This, Name, Array, Object, Function, Numbered, Suffixed, New, Update, Unary, Chain, Conditional, Assign, Comma, absent, present, Expressions, no_expression, an_expression, Items, no_item, an_item, Properties, no_property, a_property, SuffixTree, a_member, an_index, a_call, Suffixes, no_suffix, a_suffix, Operands, no_operand, an_operand, FunctionTree, a_function}
 use Rattle.js_grammar.specs.Operators.{is_target}
 use Rattle.heap_values.specs.declared.ids.Kind.{Kind}
 use Rattle.heap_values.specs.declared.ids.Kind.TheVariants as kind
@@ -21,11 +21,12 @@ use Rattle.heap_values.specs.declared.ids.ObjectId.{ObjectId}
 use Rattle.heap_values.specs.declared.built_in.BuiltIn.TheVariants as built_in
 use Rattle.heap_values.specs.declared.value.Value.{Value}
 use Rattle.heap_values.specs.declared.value.Value.TheVariants as value
+use Rattle.js_pattern_reader.specs.Literal.{Literal}
 use Rattle.object_heap.specs.Heap.{object_at, kind_in}
 use Rattle.js_convert.specs.Numeric.{truth_of}
 use Rattle.js_convert.specs.Texts.{text_of}
 use Rattle.run_trees.specs.Runs.{pure, reading, ◌>>=◌, ◌>>◌}
-use Rattle.js_evaluation.specs.State.{Does, charge, make, define, write_slot, test_text, built_in_object, global_object, throw_type_error, unsupported}
+use Rattle.js_evaluation.specs.State.{Does, charge, make, make_pattern, define, write_slot, test_text, built_in_object, global_object, throw_type_error, unsupported}
 use Rattle.js_evaluation.specs.Objects.{Context, get, put, test_base, delete_property, closure, arity_of}
 use Rattle.js_evaluation.specs.Scoping.{Scoping}
 use Rattle.js_evaluation.specs.Parts.{Reference, to_name, to_property, Within, visit, refer, calls, construct, outside, suffix_place}
@@ -82,6 +83,14 @@ end_of_array p array count false = pure (value.Object array)
 
 abbrev pub text_literal : Place → List ℕ → Does Value
 text_literal p t = test_text t p >> pure (value.Text t)
+
+-- a new object at each evaluation (7.8.5), whose search begins at 0 (15.10.7.5)
+abbrev pub pattern_literal : Place → Literal → Does Value
+pattern_literal p l = do
+  _source ← test_text l.body p
+  pattern ← make_pattern l p
+  _begin ← define pattern (codes "lastIndex") (value.Number (pos 0)) false false p
+  pure (value.Object pattern)
 
 abbrev pub not_a_constructor : {A : Type 0} → Place → Does A
 not_a_constructor p = throw_type_error (codes "not a constructor") p
@@ -261,6 +270,7 @@ module _ (scoping : Scoping) (functions : List FunctionTree) (go : Within) where
   unfoldable pub expression_node : Context → ExpressionTree → Does Value
   expression_node cx (Number p n) = pure (value.Number n)
   expression_node cx (Characters p t) = text_literal p t
+  expression_node cx (Pattern p l) = pattern_literal p l
   expression_node cx (True p) = pure (value.Bool true)
   expression_node cx (False p) = pure (value.Bool false)
   expression_node cx (Null p) = pure value.Null

@@ -16,6 +16,8 @@ pub mod Objects
 pub mod PacExamples
 pub mod PacNatives
 pub mod Parts
+pub mod PatternExamples
+pub mod Patterns
 pub mod RuleExamples
 pub mod Scoping
 pub mod State

@@ -3,7 +3,7 @@
 use Rattle.std.specs.Prelude.{ℕ, List}
 use Rattle.js_tree.specs.declared.place.Place.{Place}
 use Rattle.js_tree.specs.declared.bound.BoundName.{BoundName}
-use Rattle.js_tree.specs.Tree.{ExpressionTree, Number, Characters, True, False, Null, This, Name, Array, Object, Function, Numbered, Suffixed, New, Update, Unary, Chain, Conditional, Assign, Comma, SuffixTree, a_member, an_index, a_call, StatementTree, Block, Empty, Evaluate, Debugger, Var, If, DoWhile, While, For, ForIn, Continue, Break, Return, Throw, Switch, Try, Declare, DeclareNumbered, Statements}
+use Rattle.js_tree.specs.Tree.{ExpressionTree, Number, Characters, Pattern, True, False, Null, This, Name, Array, Object, Function, Numbered, Suffixed, New, Update, Unary, Chain, Conditional, Assign, Comma, SuffixTree, a_member, an_index, a_call, StatementTree, Block, Empty, Evaluate, Debugger, Var, If, DoWhile, While, For, ForIn, Continue, Break, Return, Throw, Switch, Try, Declare, DeclareNumbered, Statements}
 use Rattle.heap_values.specs.declared.ids.ObjectId.{ObjectId}
 use Rattle.heap_values.specs.declared.ids.ScopeId.{ScopeId}
 use Rattle.heap_values.specs.declared.value.Value.{Value}
@@ -57,6 +57,7 @@ module _ (go : Within) where
 abbrev pub expression_place : ExpressionTree → Place
 expression_place (Number p n) = p
 expression_place (Characters p x) = p
+expression_place (Pattern p l) = p
 expression_place (True p) = p
 expression_place (False p) = p
 expression_place (Null p) = p

@@ -5,6 +5,7 @@
 use Rattle.std.specs.Prelude.{ℕ, ◌-◌, List, [], length, Bool, true, false, if◌then◌else◌, nat_lt, Option, Some, Result, Ok, Err, codes}
 use Rattle.js_tree.specs.declared.place.Place.{Place}
 use Rattle.js_binding.specs.Scopes.{Scope}
+use Rattle.js_pattern_reader.specs.Literal.{Literal}
 use Rattle.heap_values.specs.declared.answer.HeapAnswer.{HeapAnswer}
 use Rattle.heap_values.specs.declared.answer.HeapAnswer.TheVariants as heap
 use Rattle.heap_values.specs.declared.ids.Kind.{Kind}
@@ -18,7 +19,7 @@ use Rattle.heap_values.specs.declared.value.Value.TheVariants.{Text, Object}
 use Rattle.heap_values.specs.Views.{HeapView}
 use Rattle.heap_objects.specs.Object.{value_property}
 use Rattle.object_heap.specs.Fresh.{built_in_number}
-use Rattle.object_heap.specs.Heap.{made_of, scope_made_of, stored, slot_written_of, text_spent_of}
+use Rattle.object_heap.specs.Heap.{made_of, pattern_made_of, scope_made_of, stored, slot_written_of, text_spent_of}
 use Rattle.pac_calendar.specs.declared.moment.Moments.{Moments}
 use Rattle.pac_functions.specs.declared.call.PacSettings.{PacSettings}
 use Rattle.js_evaluation.specs.declared.fault.Fault.{Fault}
@@ -101,9 +102,16 @@ abbrev pub changed : Place → Result HeapView HeapAnswer → Does (Unit {0})
 changed place (Ok h) = with_heap h
 changed place (Err e) = fault (heap_fault e) place
 
+abbrev pub built_in_object : BuiltIn → ObjectId
+built_in_object which = record { 0 = built_in_number which }
+
 -- a new object
 abbrev pub make : Kind → Option ObjectId → Place → Does ObjectId
 make k prototype place = reading (λ s. made place (made_of s.heap k prototype))
+
+-- a new object for a pattern literal
+abbrev pub make_pattern : Literal → Place → Does ObjectId
+make_pattern l place = reading (λ s. made place (pattern_made_of s.heap l (Some (built_in_object built_in.PatternPrototype))))
 
 -- a new scope of so many slots, each undefined
 abbrev pub make_scope : ℕ → ScopeId → Place → Does ScopeId
@@ -123,9 +131,6 @@ spend text place = reading (λ s. changed place (text_spent_of s.heap (length te
 -- a text that becomes a value and isn't counted must be short enough
 abbrev pub test_text : List ℕ → Place → Does (Unit {0})
 test_text text place = if nat_lt LONGEST_TEXT (length text) then fault code.StringTooLong place else pure tt
-
-abbrev pub built_in_object : BuiltIn → ObjectId
-built_in_object which = record { 0 = built_in_number which }
 
 abbrev pub global_object : Value
 global_object = Object (built_in_object built_in.Global)

@@ -22,9 +22,14 @@ abbrev pub text_units : List Value → ℕ
 text_units [] = 0
 text_units (v ∷ vs) = units_in v + text_units vs
 
--- each place of a text, with the one behind its end, beside each of the part that is looked for
-abbrev pub search_walk : Value → Value → ℕ
-search_walk whole part = (units_in whole + 1) * (units_in part + 1)
+-- each place of a text, with the one behind its end, beside each of the part that is looked for; where that is a
+-- pattern, so many units, since its searches have costs of their own
+abbrev pub search_walk_by : Value → Value → ℕ → ℕ
+search_walk_by whole (value.Object pattern) units = units
+search_walk_by whole part units = (units_in whole + 1) * (units_in part + 1)
+
+abbrev pub search_walk : List Value → ℕ
+search_walk vs = search_walk_by (argument 0 vs) (argument 1 vs) (text_units vs)
 
 -- the units of these arguments, each as a text
 abbrev pub units_of : List Value → ℕ
@@ -41,7 +46,7 @@ abbrev pub values_walk : Walk → List Value → ℕ → ℕ
 values_walk walk.Values vs handed = handed
 values_walk walk.Arguments vs handed = arguments_walk vs
 values_walk walk.Texts vs handed = text_units vs
-values_walk walk.Search vs handed = search_walk (argument 0 vs) (argument 1 vs)
+values_walk walk.Search vs handed = search_walk vs
 values_walk walk.Units vs handed = units_of vs
 values_walk walk.Pattern vs handed = match_walk (text_in vs 0) (text_in vs 1)
 values_walk w vs handed = 0

@@ -33,7 +33,8 @@ pub enum Walk {
     Arguments,
     /// The units of the texts among its values.
     Texts,
-    /// Each place of the first text, with the one behind its end, beside each of the second, which is looked for in it.
+    /// Each place of the first text, with the one behind its end, beside each of the second, which is looked for in it;
+    /// for a pattern the units of the texts, since its searches have costs of their own.
     Search,
     /// The units of its values, each as a text.
     Units,

@@ -2,17 +2,15 @@
 // definitions read. A native is a row here, and a function. Behind each row stand its number, by which the table of
 // built-in objects names it, and where it is told: its sections of ECMA-262 5.1, or the page on the Netscape Navigator
 // Proxy Auto-Config format.
-use crate::native::{Conversion, Native, PlainNative};
+use crate::native::{Conversion, Native, PatternNative, PlainNative};
 use crate::native_row::{Called, NativeRow, Taken, Walk};
 use Called::{Constructor, Function, Method};
 use Conversion::{
-    Kept, Number, OptionalText, Position, Primitive, Replacement, Text, ThisArray, ThisBoolean,
-    ThisNumber, ThisText,
+    Kept, Number, OptionalPatternOrText, OptionalText, Pattern, PatternOrText, Position, Primitive,
+    Replacement, Text, ThisArray, ThisBoolean, ThisNumber, ThisPattern, ThisText,
 };
 use Taken::{All, AtMost, Listed};
-use Walk::{
-    AllElements, Arguments, Elements, Keys, Nothing, Own, Pattern, Search, Texts, Units, Values,
-};
+use Walk::{AllElements, Arguments, Elements, Keys, Nothing, Own, Search, Texts, Units, Values};
 use array_builtins::ArrayMethod;
 use number_builtins::NumberMethod;
 use pac_functions::PacFunction;
@@ -33,6 +31,12 @@ macro_rules! pac {
 macro_rules! text {
     ($method:ident) => {
         Native::Plain(PlainNative::TextMethod(TextMethod::$method))
+    };
+}
+
+macro_rules! pattern {
+    ($method:ident) => {
+        Native::Pattern(PatternNative::$method)
     };
 }
 
@@ -75,7 +79,7 @@ pub const NATIVES: &[NativeRow] = &[
     (pac!(IsResolvable), "isResolvable", Function, &[Primitive], Listed, Units), // 18 (the page on the proxy format)
     (pac!(IsInNet), "isInNet", Function, &[Primitive, Primitive, Primitive], Listed, Units), // 19 (the page on the proxy format)
     (pac!(MyIpAddress), "myIpAddress", Function, &[], Listed, Nothing), // 20 (the page on the proxy format)
-    (pac!(ShExpMatch), "shExpMatch", Function, &[Primitive, Primitive], Listed, Pattern), // 21 (the page on the proxy format)
+    (pac!(ShExpMatch), "shExpMatch", Function, &[Primitive, Primitive], Listed, Walk::Pattern), // 21 (the page on the proxy format)
     (pac!(Alert), "alert", Function, &[Primitive], Listed, Units), // 22 (the page on the proxy format)
     (pac!(WeekdayRange), "weekdayRange", Function, &[], All(Kept), Nothing), // 23 (the page on the proxy format)
     (pac!(DateRange), "dateRange", Function, &[], All(Kept), Nothing), // 24 (the page on the proxy format)
@@ -97,9 +101,9 @@ pub const NATIVES: &[NativeRow] = &[
     (text!(Concat), "String.prototype.concat", Method(Text), &[], All(Text), Texts), // 36 (15.5.4.6)
     (text!(IndexOf), "String.prototype.indexOf", Method(Text), &[Text, Position], Listed, Search), // 37 (15.5.4.7)
     (text!(LastIndexOf), "String.prototype.lastIndexOf", Method(Text), &[Text, Number], Listed, Search), // 38 (15.5.4.8)
-    (text!(Replace), "String.prototype.replace", Method(Text), &[Text, Replacement], Listed, Search), // 39 (15.5.4.11)
+    (pattern!(Replace), "String.prototype.replace", Method(Text), &[PatternOrText, Replacement], Listed, Search), // 39 (15.5.4.11)
     (text!(Slice), "String.prototype.slice", Method(Text), &[Position, Position], Listed, Texts), // 40 (15.5.4.13)
-    (text!(Split), "String.prototype.split", Method(Text), &[OptionalText, Position], Listed, Search), // 41 (15.5.4.14)
+    (pattern!(Split), "String.prototype.split", Method(Text), &[OptionalPatternOrText, Position], Listed, Search), // 41 (15.5.4.14)
     (text!(Substr), "String.prototype.substr", Method(Text), &[Position, Position], Listed, Texts), // 42 (B.2.3)
     (text!(Substring), "String.prototype.substring", Method(Text), &[Position, Position], Listed, Texts), // 43 (15.5.4.15)
     (text!(ToLowerCase), "String.prototype.toLowerCase", Method(Text), &[], Listed, Texts), // 44 (15.5.4.16)
@@ -136,6 +140,13 @@ pub const NATIVES: &[NativeRow] = &[
     (pac!(DnsResolveEx), "dnsResolveEx", Function, &[Primitive], Listed, Units), // 69 (this project's)
     (pac!(IsResolvableEx), "isResolvableEx", Function, &[Primitive], Listed, Units), // 70 (this project's)
     (pac!(IsInNetEx), "isInNetEx", Function, &[Primitive, Primitive], Listed, Units), // 71 (this project's)
+
+    // The methods of patterns, and those of texts that take a pattern alone.
+    (pattern!(Exec), "RegExp.prototype.exec", Method(ThisPattern), &[Text], Listed, Nothing), // 72 (15.10.6.2)
+    (pattern!(Test), "RegExp.prototype.test", Method(ThisPattern), &[Text], Listed, Nothing), // 73 (15.10.6.3)
+    (plain!(PatternToString), "RegExp.prototype.toString", Method(ThisPattern), &[], Listed, Nothing), // 74 (15.10.6.4)
+    (pattern!(Match), "String.prototype.match", Method(Text), &[Pattern], Listed, Texts), // 75 (15.5.4.10)
+    (pattern!(Search), "String.prototype.search", Method(Text), &[Pattern], Listed, Texts), // 76 (15.5.4.12)
 ];
 
 /// The row of a native that has none: it would take nothing. Each native has one.

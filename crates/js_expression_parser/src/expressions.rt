@@ -357,6 +357,10 @@ impl<N: Nested> Parser<N> {
                 let node = ExpressionNode::Text(text.copy(self.alloc)?);
                 Ok((Expression { place, node }, rest))
             }
+            TokenKind::Pattern(literal) => {
+                let node = ExpressionNode::Pattern(literal.copy()?);
+                Ok((Expression { place, node }, rest))
+            }
             TokenKind::Word(word) => self.word_value(word, place, rest),
             TokenKind::Sign(Sign::LeftParenthesis) => self.in_parentheses(tokens),
             TokenKind::Sign(Sign::LeftBracket) => self.array(place, tokens),

@@ -9,7 +9,8 @@ use Rattle.js_tree.specs.declared.expression.ExpressionNode.TheVariants as node
 use Rattle.js_tree.specs.declared.expression.FunctionPart.TheVariants as part
 use Rattle.js_tree.specs.declared.expression.Suffix.{Suffix}
 use Rattle.js_tree.specs.declared.operators.UnaryOp.TheVariants as unary
-use Rattle.js_tree.specs.Tree.{ExpressionTree, FunctionTree, Items, Properties, Suffixes, Characters, Name, Array, Object, Suffixed}
+use Rattle.js_tree.specs.Tree.{ExpressionTree, FunctionTree, Items, Properties, Suffixes, Characters, Pattern, Name, Array, Object, Suffixed}
+use Rattle.js_pattern_reader.specs.Literal.{Literal}
 use Rattle.js_tree.specs.View.{expression_of}
 use Rattle.heap_values.specs.declared.value.Value.{Value}
 use Rattle.heap_values.specs.declared.value.Value.TheVariants as value
@@ -74,6 +75,10 @@ module _ (m : Machine) (e : ExpressionTree) (p : Place) (r : Result Now Halt) (m
   pub text_value : (t : List ℕ) → Characters p t ≡ e → Moves (rule.text_literal p t) m r m' → Moves (at m (rule.expression_node by_slots) e) m r m'
   unfolding expression_node
   text_value t is k = subst (λ (y : ExpressionTree). Moves (at m (rule.expression_node by_slots) y) m r m') is k
+
+  pub pattern_value : (l : Literal) → Pattern p l ≡ e → Moves (rule.pattern_literal p l) m r m' → Moves (at m (rule.expression_node by_slots) e) m r m'
+  unfolding expression_node
+  pattern_value l is k = subst (λ (y : ExpressionTree). Moves (at m (rule.expression_node by_slots) y) m r m') is k
 
   pub array_value : (items : Items) → Array p items ≡ e → Moves (at m (rule.array_literal by_slots) p items) m r m' → Moves (at m (rule.expression_node by_slots) e) m r m'
   unfolding expression_node

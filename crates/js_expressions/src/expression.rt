@@ -16,7 +16,8 @@ use heap_values::Value;
 use js_frames::{Aim, Reference};
 use js_machine::{Machine, Now, Step};
 use js_primary::{
-    array_literal, comma_from, conditional, function_value, new_value, object_literal, text_literal,
+    array_literal, comma_from, conditional, function_value, new_value, object_literal,
+    pattern_literal, text_literal,
 };
 use js_tree::{BoundName, Expression, ExpressionNode, FunctionPart, Place};
 
@@ -29,6 +30,7 @@ pub fn expression_node<'p>(machine: &mut Machine<'p>, e: &'p Expression) -> Step
     match &e.node {
         ExpressionNode::Number(number) => Ok(Now::Back(Ok(Value::Number(*number)))),
         ExpressionNode::Text(text) => text_literal(machine, text, place),
+        ExpressionNode::Pattern(literal) => pattern_literal(machine, literal, place),
         ExpressionNode::True => Ok(Now::Back(Ok(Value::Bool(true)))),
         ExpressionNode::False => Ok(Now::Back(Ok(Value::Bool(false)))),
         ExpressionNode::Null => Ok(Now::Back(Ok(Value::Null))),

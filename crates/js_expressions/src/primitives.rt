@@ -16,7 +16,9 @@ use heap_values::{ObjectId, Value};
 use js_convert::to_number;
 use js_frames::{Aim, Methods, Reference, Wanted};
 use js_machine::{Machine, Now, Step};
-use js_native_calls::{convert, element_converted, error_message, error_named, value_converted};
+use js_native_calls::{
+    begin_converted, convert, element_converted, error_message, error_named, value_converted,
+};
 use js_tree::{Place, Suffix};
 use whole_number::Whole;
 
@@ -103,6 +105,11 @@ fn primitive_done<'p>(machine: &mut Machine<'p>, wanted: Wanted<'p>, value: Valu
             handed,
             place,
         } => value_converted(machine, native, left, done, handed, place, value),
+        Wanted::Begin {
+            native,
+            values,
+            place,
+        } => begin_converted(machine, native, values, place, value),
         Wanted::Element {
             left,
             count,

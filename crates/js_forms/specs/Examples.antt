@@ -49,6 +49,11 @@ pub constant : advice_on kind.Unsupported (at 2 2) (10 ∷ codes " const x = 1;"
 unfolding forms
 constant = refl
 
+-- a regular expression that isn't read is refused at its slash
+pub look_ahead : advice_on kind.Unsupported (at 1 9) (codes "var x = /(?=a)/;") ≡ codes "a regular expression has no look-ahead here, only the escapes of edition 5.1, 20 groups and counts to 1000; write it with other parts"
+unfolding forms
+look_ahead = refl
+
 -- what is no other form that is left out is a label
 pub label : advice_on kind.Unsupported (at 1 1) (codes "hosts: f();") ≡ codes "there are no labels; write the inner loop as a function, and return"
 unfolding forms

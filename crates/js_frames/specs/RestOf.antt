@@ -18,6 +18,7 @@ use Rattle.js_evaluation.specs.Objects.{Context, get, test_base, has_property}
 use Rattle.js_evaluation.specs.Conversions as convert
 use Rattle.js_evaluation.specs.Handed as handed
 use Rattle.js_evaluation.specs.Natives as native
+use Rattle.js_evaluation.specs.Patterns.{pattern_work}
 use Rattle.js_evaluation.specs.NativeTable as table
 use Rattle.js_evaluation.specs.Expressions as expression
 use Rattle.js_evaluation.specs.Statements as statement
@@ -96,6 +97,8 @@ module _ (functions : List FunctionTree) (go : Within) (cx : Context) where
   with_primitive (wanted.Handed n left done handed place) v =
       giving (native.settled (table.conversion_at n (length done)) v place
       >>= (λ w. native.converted_from (calls go) n left (done ++ w ∷ []) handed place))
+  with_primitive (wanted.Begin n vs place) v =
+      giving (native.position_of (numeric_of v) place >>= (λ begin. pattern_work n vs begin place))
   with_primitive (wanted.Element left count array texts separator place) v =
       giving (native.joined_from (calls go) left count array (texts ++ text_of v ∷ []) separator place)
 

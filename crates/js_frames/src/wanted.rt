@@ -1,7 +1,7 @@
 // What an object becomes a primitive value for.
 use crate::{Aim, Reference};
 use heap_values::{ObjectId, Value};
-use js_evaluation::Native;
+use js_evaluation::{Native, PatternNative};
 use js_tree::{BinaryOp, Operand, Place, Suffix, UpdateForm, UpdateOp};
 use utf16_text::{List, Text, TextList};
 
@@ -97,6 +97,12 @@ pub enum Wanted<'p> {
         left: usize,
         done: List<Value>,
         handed: List<Value>,
+        place: Place,
+    },
+    /// Where a native begins to search for a pattern, with the values that it takes.
+    Begin {
+        native: PatternNative,
+        values: List<Value>,
         place: Place,
     },
     /// An element of an array that becomes a text, of so many, behind the texts of those before; left: how many come

@@ -20,7 +20,7 @@ use Rattle.js_tree.specs.declared.expression.Suffix.{Suffix}
 use Rattle.js_tree.specs.declared.expression.SuffixNode.TheVariants as suffix
 use Rattle.js_tree.specs.declared.expression.Operand.{Operand}
 use Rattle.js_tree.specs.declared.expression.Function.{Function as FunctionRecord}
-use Rattle.js_tree.specs.Tree.{ExpressionTree, Number, Characters, True, False, Null, This, Name, Array, Object, Function, Suffixed, New, Update, Unary, Chain, Conditional, Assign, Comma, StatementTree, expressions_of, items_of}
+use Rattle.js_tree.specs.Tree.{ExpressionTree, Number, Characters, Pattern, True, False, Null, This, Name, Array, Object, Function, Suffixed, New, Update, Unary, Chain, Conditional, Assign, Comma, StatementTree, expressions_of, items_of}
 use Rattle.js_tree.specs.View.{properties_of, suffixes_of, operands_of, function_of}
 use Rattle.js_tree.specs.declared.keyword.Keyword.{Keyword}
 use Rattle.js_tree.specs.declared.keyword.Keyword.TheVariants as word
@@ -86,6 +86,7 @@ abbrev pub name_in : TokenKind → Option (List ℕ)
 name_in (token.Word w) = Some w
 name_in (token.Text x) = Some x
 name_in (token.Number n) = Some (signed_decimal n)
+name_in (token.Pattern l) = None
 name_in (token.Sign s) = None
 
 abbrev pub next_name : List Token → Option (List ℕ)
@@ -277,6 +278,7 @@ module _ (end : Place) where
   abbrev pub primary_by : Deeper → TokenKind → Place → List Token → Reader ExpressionTree
   primary_by d (token.Number n) p all ts = Ok (Number p n, ts)
   primary_by d (token.Text x) p all ts = Ok (Characters p x, ts)
+  primary_by d (token.Pattern l) p all ts = Ok (Pattern p l, ts)
   primary_by d (token.Word w) p all ts = word_value d (keyword_of w) w p ts
   primary_by d (token.Sign s) p all ts = sign_value d s p all ts
 

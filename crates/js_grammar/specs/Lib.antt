@@ -1,6 +1,7 @@
 pub mod Expressions
 pub mod Literals
 pub mod Operators
+pub mod Patterns
 pub mod Placeless
 pub mod Printing
 pub mod PrintingExamples

@@ -3,6 +3,7 @@ use Rattle.std.specs.Prelude.{◌≡◌, [], ◌∷◌, ◌++◌, codes, Ok, ref
 use Rattle.js_grammar.specs.Reading.{◌>>=◌}
 use Rattle.js_grammar.specs.Tokens.{piece_at, tokens_from}
 use Rattle.js_grammar.specs.Literals.{text_from}
+use Rattle.js_grammar.specs.Patterns.{literal_of, pattern_at}
 use Rattle.js_grammar.specs.Readers.{row_of, expect, semicolon}
 use Rattle.js_grammar.specs.Expressions.{a_statement, a_part, expression, in_parentheses, primary, a_suffix, suffixed, postfix, unary, an_operand, chain, level, conditional, assignment, arguments, an_argument, an_item, item_value}
 use Rattle.js_grammar.specs.Statements.{evaluated, statement, deeper, script_within, script_of_text, if_statement, a_branch, one_branch, otherwise, block_from}
@@ -28,3 +29,8 @@ last_hole = refl
 pub branches : (script_of_text (codes "if (a) b; else if (c) {} else d") >>= λ body. Ok (printed_bytes body)) ≡ Ok (codes "if ( a ) b ; else if ( c ) { } else d ;" ++ 10 ∷ [])
 unfolding tokens_from piece_at text_from script_within deeper row_of a_statement statement evaluated expression a_part assignment conditional level chain an_operand unary postfix suffixed primary a_suffix semicolon in_parentheses expect if_statement a_branch one_branch otherwise block_from expression_tokens
 branches = refl
+
+-- a pattern literal in brackets, as it is kept; é is 233
+pub pattern_literal : (script_of_text (codes "x = /" ++ 233 ∷ codes "/g") >>= λ body. Ok (printed_bytes body)) ≡ Ok (codes "( x = ( /\\u00e9/g ) ) ;" ++ 10 ∷ [])
+unfolding tokens_from piece_at pattern_at literal_of script_within deeper row_of a_statement statement evaluated expression a_part assignment conditional level chain an_operand unary postfix suffixed primary a_suffix semicolon expression_tokens
+pattern_literal = refl

@@ -4,10 +4,11 @@ use Rattle.js_tree.specs.declared.operators.UpdateForm.TheVariants.{Postfix}
 use Rattle.js_tree.specs.declared.operators.UpdateOp.TheVariants.{Increment}
 use Rattle.js_tree.specs.declared.operators.BinaryOp.TheVariants as binary
 use Rattle.js_tree.specs.declared.refusal.ReadKind.TheVariants.{Unexpected, Unsupported}
-use Rattle.js_tree.specs.Tree.{Name, Update, Chain, an_operand, no_operand, Evaluate}
+use Rattle.js_tree.specs.Tree.{Name, Pattern, Update, Chain, an_operand, no_operand, Evaluate}
 use Rattle.js_grammar.specs.TokenExamples.{at}
 use Rattle.js_grammar.specs.Tokens.{piece_at, tokens_from}
 use Rattle.js_grammar.specs.Literals.{text_from}
+use Rattle.js_grammar.specs.Patterns.{literal_of, pattern_at}
 use Rattle.js_grammar.specs.Readers.{row_of, expect, name, semicolon, unbound}
 use Rattle.js_grammar.specs.Expressions.{a_statement, a_part, expression, in_parentheses, primary, a_suffix, suffixed, postfix, unary, an_operand as operand_reader, chain, level, conditional, assignment}
 use Rattle.js_grammar.specs.Statements.{evaluated, statement, deeper, script_within, script_of_text, block_from, for_statement, for_value, for_in_from, return_statement, clause_from, a_case, clauses, switch_statement, function_statement}
@@ -47,3 +48,9 @@ pub function_in_block : script_of_text (codes "{ function f() {} }")
     ≡ Err (Unsupported, at 1 3)
 unfolding tokens_from piece_at text_from script_within deeper row_of a_statement statement evaluated expression a_part assignment conditional level chain operand_reader unary postfix suffixed primary a_suffix semicolon block_from function_statement name
 function_in_block = refl
+
+-- a pattern literal is a leaf, at the place of its first slash
+pub pattern_in_brackets : script_of_text (codes "(/a/g)")
+    ≡ Ok (Evaluate (at 1 1) (Pattern (at 1 2) (record { body = codes "a"; flags = codes "g" })) ∷ [])
+unfolding tokens_from piece_at pattern_at literal_of script_within deeper row_of a_statement statement evaluated expression a_part assignment conditional level chain operand_reader unary postfix suffixed primary a_suffix semicolon in_parentheses expect
+pattern_in_brackets = refl

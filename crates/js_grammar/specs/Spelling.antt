@@ -7,6 +7,8 @@ use Rattle.js_tree.specs.declared.token.Token.{Token}
 use Rattle.js_tree.specs.declared.token.TokenKind.{TokenKind}
 use Rattle.js_tree.specs.declared.token.TokenKind.TheVariants as token
 use Rattle.js_tree.specs.Tree.{StatementTree}
+use Rattle.js_pattern_reader.specs.Literal.{Literal}
+use Rattle.js_grammar.specs.Patterns.{ascii_unit}
 use Rattle.js_grammar.specs.Signs.{sign_spelling}
 use Rattle.js_grammar.specs.Printing.{statement_tokens}
 
@@ -16,11 +18,16 @@ quotation_mark = 34
 abbrev pub line_feed : ℕ
 line_feed = 10
 
+-- between two slashes (47) a body that is kept in ASCII, and its flags behind them
+abbrev pub pattern_spelling : Literal → List ℕ
+pattern_spelling l = 47 ∷ (flat_map ascii_unit l.body ++ 47 ∷ flat_map ascii_unit l.flags)
+
 -- a text stands in `"` with its escape, and a number in decimal
 abbrev pub spelling : TokenKind → List ℕ
 spelling (token.Word w) = escaped false w
 spelling (token.Number n) = signed_decimal n
 spelling (token.Text x) = quotation_mark ∷ (escaped true x ++ quotation_mark ∷ [])
+spelling (token.Pattern l) = pattern_spelling l
 spelling (token.Sign s) = sign_spelling s
 
 -- tokens parted by one space, with a line feed (10) behind the last

@@ -6,11 +6,11 @@ use Rattle.utf16_text.specs.Letters.{is_break_unit, is_space_unit}
 use Rattle.js_tree.specs.declared.place.Place.{Place}
 use Rattle.js_tree.specs.declared.token.Token.{Token}
 use Rattle.js_tree.specs.declared.token.TokenKind.{TokenKind}
-use Rattle.js_tree.specs.declared.token.TokenKind.TheVariants.{Word, Number, Text, Sign}
+use Rattle.js_tree.specs.declared.token.TokenKind.TheVariants.{Word, Number, Text, Pattern, Sign}
 use Rattle.js_tree.specs.declared.sign.Sign.{Sign as SignName}
 use Rattle.js_tree.specs.declared.sign.Sign.TheVariants as sign
 use Rattle.js_tree.specs.declared.refusal.ReadKind.{ReadKind}
-use Rattle.js_tree.specs.declared.refusal.ReadKind.TheVariants.{BadToken, FractionLiteral, Unsupported}
+use Rattle.js_tree.specs.declared.refusal.ReadKind.TheVariants.{BadToken, FractionLiteral}
 use Rattle.js_tree.specs.declared.keyword.Keyword.{Keyword}
 use Rattle.js_tree.specs.declared.keyword.Keyword.TheVariants as word
 use Rattle.js_grammar.specs.Reading.{Refusal, ◌>>=◌}
@@ -19,6 +19,7 @@ use Rattle.js_grammar.specs.Units.{first_passes, begins_with, is_word_start, is_
 use Rattle.js_grammar.specs.Words.{keyword_of}
 use Rattle.js_grammar.specs.Signs.{sign_at}
 use Rattle.js_grammar.specs.Literals.{number_at, text_at}
+use Rattle.js_grammar.specs.Patterns.{pattern_at}
 
 -- ---- slashes
 
@@ -53,9 +54,11 @@ abbrev pub ends_value : Bool → TokenKind → Bool
 ends_value after_dot (Word w) = after_dot || is_value_word (keyword_of w)
 ends_value after_dot (Number n) = true
 ends_value after_dot (Text units) = true
+ends_value after_dot (Pattern l) = false
 ends_value after_dot (Sign s) = is_closing_sign s
 
--- Whether a slash divides, by the tokens before it, the last one first. Elsewhere it would begin a regular expression.
+-- Whether a slash divides, by the tokens before it, the last one first. Elsewhere it begins a pattern literal (7.8.5),
+-- also behind another one.
 abbrev pub divides : List Token → Bool
 divides [] = false
 divides (t ∷ ts) = ends_value (dot_first ts) t.kind
@@ -83,13 +86,17 @@ abbrev pub sign_piece : Option (SignName × ℕ) → Result Piece ReadKind
 sign_piece None = Err BadToken
 sign_piece (Some x) = Ok (Some (Sign x.0), x.1)
 
--- at a slash (47): a comment, a division sign, or what would be a regular expression
+-- us: the units behind the first slash
+abbrev pub pattern_piece : List ℕ → Result Piece ReadKind
+pattern_piece us = pattern_at us >>= λ x. Ok (Some (Pattern x.0), x.1 + 1)
+
+-- at a slash (47): a comment, a division sign, or a pattern literal
 abbrev pub slash_piece : Bool → List ℕ → Result Piece ReadKind
 slash_piece dividing us =
     if begins_with 47 (drop 1 us) then Ok (None, prefix_len is_inline (drop 1 us) + 1)
     else if begins_with 42 (drop 1 us) then comment_piece (comment_length (drop 2 us))
     else if dividing then sign_piece (sign_at us)
-    else Err Unsupported
+    else pattern_piece (drop 1 us)
 
 abbrev pub word_piece : List ℕ → Result Piece ReadKind
 word_piece us = let n = prefix_len is_word_part us in Ok (Some (Word (take n us)), n)

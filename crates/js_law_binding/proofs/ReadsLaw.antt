@@ -2,7 +2,7 @@
 use Rattle.std.proofs.Common.{◌≡◌, ℕ, List, [], ◌∷◌, ◌++◌, map, Option, Some, None, refl, ◌∙◌, ap, arith}
 use Rattle.std.specs.Prelude.{option_map}
 use Rattle.js_tree.specs.declared.bound.BoundName.{BoundName}
-use Rattle.js_tree.specs.Tree.{ExpressionTree, Number, Characters, True, False, Null, This, Name, Array, Object, Function, Numbered, Suffixed, New, Update, Unary, Chain, Conditional, Assign, Comma, OptionalExpression, absent, present, Expressions, no_expression, an_expression, Items, no_item, an_item, Properties, no_property, a_property, SuffixTree, a_member, an_index, a_call, Suffixes, no_suffix, a_suffix, Operands, no_operand, an_operand, FunctionTree, a_function, StatementTree, Block, Empty, Evaluate, Debugger, Var, If, DoWhile, While, For, ForIn, Continue, Break, Return, Throw, Switch, Try, Declare, DeclareNumbered, OptionalStatement, omitted, given, Statements, no_statement, a_statement, Declarations, no_declared, a_declared, Branches, no_branch, a_branch, StartTree, no_start, start_var, start_value, TargetTree, target_value, target_declared, Clauses, no_clause, a_clause, CatchTree, no_catch, a_catch}
+use Rattle.js_tree.specs.Tree.{ExpressionTree, Number, Characters, Pattern, True, False, Null, This, Name, Array, Object, Function, Numbered, Suffixed, New, Update, Unary, Chain, Conditional, Assign, Comma, OptionalExpression, absent, present, Expressions, no_expression, an_expression, Items, no_item, an_item, Properties, no_property, a_property, SuffixTree, a_member, an_index, a_call, Suffixes, no_suffix, a_suffix, Operands, no_operand, an_operand, FunctionTree, a_function, StatementTree, Block, Empty, Evaluate, Debugger, Var, If, DoWhile, While, For, ForIn, Continue, Break, Return, Throw, Switch, Try, Declare, DeclareNumbered, OptionalStatement, omitted, given, Statements, no_statement, a_statement, Declarations, no_declared, a_declared, Branches, no_branch, a_branch, StartTree, no_start, start_var, start_value, TargetTree, target_value, target_declared, Clauses, no_clause, a_clause, CatchTree, no_catch, a_catch}
 use Rattle.js_tree.specs.Tree.{statements_of}
 use Rattle.js_binding.specs.Names.{names_of}
 use Rattle.js_binding.specs.Scopes.{Scope, bound_in}
@@ -45,6 +45,7 @@ mutual
   pub expression_reads : (value : ℕ → ℕ → ℕ) (scopes : List Scope) (e : ExpressionTree) → Keeps nothing_read (values_in_function value) (λ at r. expression_values value at (values_of value scopes) r ≡ expression_read value (records_of value scopes) e) (expression_in scopes e)
   expression_reads value scopes (Number p n) = keeps_pure (Number p n) (λ at. refl)
   expression_reads value scopes (Characters p x) = keeps_pure (Characters p x) (λ at. refl)
+  expression_reads value scopes (Pattern p l) = keeps_pure (Pattern p l) (λ at. refl)
   expression_reads value scopes (True p) = keeps_pure (True p) (λ at. refl)
   expression_reads value scopes (False p) = keeps_pure (False p) (λ at. refl)
   expression_reads value scopes (Null p) = keeps_pure (Null p) (λ at. refl)

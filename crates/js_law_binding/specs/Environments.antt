@@ -5,7 +5,7 @@ use Rattle.std.specs.Str.{bytes_eq}
 use Rattle.js_tree.specs.declared.bound.Bound.{Bound}
 use Rattle.js_tree.specs.declared.bound.Bound.TheVariants.{Unbound, Slot, Own, Global}
 use Rattle.js_tree.specs.declared.bound.BoundName.{BoundName}
-use Rattle.js_tree.specs.Tree.{ExpressionTree, Number, Characters, True, False, Null, This, Name, Array, Object, Function, Numbered, Suffixed, New, Update, Unary, Chain, Conditional, Assign, Comma, OptionalExpression, absent, present, Expressions, no_expression, an_expression, Items, no_item, an_item, Properties, no_property, a_property, SuffixTree, a_member, an_index, a_call, Suffixes, no_suffix, a_suffix, Operands, no_operand, an_operand, FunctionTree, a_function, StatementTree, Block, Empty, Evaluate, Debugger, Var, If, DoWhile, While, For, ForIn, Continue, Break, Return, Throw, Switch, Try, Declare, DeclareNumbered, OptionalStatement, omitted, given, Statements, no_statement, a_statement, Declarations, no_declared, a_declared, Branches, no_branch, a_branch, StartTree, no_start, start_var, start_value, TargetTree, target_value, target_declared, Clauses, no_clause, a_clause, CatchTree, no_catch, a_catch}
+use Rattle.js_tree.specs.Tree.{ExpressionTree, Number, Characters, Pattern, True, False, Null, This, Name, Array, Object, Function, Numbered, Suffixed, New, Update, Unary, Chain, Conditional, Assign, Comma, OptionalExpression, absent, present, Expressions, no_expression, an_expression, Items, no_item, an_item, Properties, no_property, a_property, SuffixTree, a_member, an_index, a_call, Suffixes, no_suffix, a_suffix, Operands, no_operand, an_operand, FunctionTree, a_function, StatementTree, Block, Empty, Evaluate, Debugger, Var, If, DoWhile, While, For, ForIn, Continue, Break, Return, Throw, Switch, Try, Declare, DeclareNumbered, OptionalStatement, omitted, given, Statements, no_statement, a_statement, Declarations, no_declared, a_declared, Branches, no_branch, a_branch, StartTree, no_start, start_var, start_value, TargetTree, target_value, target_declared, Clauses, no_clause, a_clause, CatchTree, no_catch, a_catch}
 use Rattle.js_tree.specs.Tree.{statements_of}
 use Rattle.js_binding.specs.Names.{names_of}
 use Rattle.js_binding.specs.Numbers.{by_number}
@@ -51,6 +51,7 @@ unfoldable mutual
   pub expression_read : (ℕ → ℕ → ℕ) → List Record → ExpressionTree → List (Option ℕ)
   expression_read value records (Number p n) = []
   expression_read value records (Characters p x) = []
+  expression_read value records (Pattern p l) = []
   expression_read value records (True p) = []
   expression_read value records (False p) = []
   expression_read value records (Null p) = []
@@ -201,6 +202,7 @@ unfoldable mutual
   pub expression_values : (ℕ → ℕ → ℕ) → (ℕ → List (List ℕ) → List (Option ℕ)) → List (List ℕ) → ExpressionTree → List (Option ℕ)
   expression_values value at scopes (Number p n) = []
   expression_values value at scopes (Characters p x) = []
+  expression_values value at scopes (Pattern p l) = []
   expression_values value at scopes (True p) = []
   expression_values value at scopes (False p) = []
   expression_values value at scopes (Null p) = []

@@ -10,6 +10,7 @@ pub mod OfParts
 pub mod OfConversions
 pub mod OfPacNatives
 pub mod OfNativeWork
+pub mod OfPatterns
 pub mod OfNatives
 pub mod OfExpressions
 pub mod OfStatements

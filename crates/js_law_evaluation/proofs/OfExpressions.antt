@@ -9,8 +9,9 @@ use Rattle.js_tree.specs.declared.operators.UnaryOp.{UnaryOp}
 use Rattle.js_tree.specs.declared.operators.UnaryOp.TheVariants as unary
 use Rattle.js_tree.specs.declared.operators.UpdateForm.{UpdateForm}
 use Rattle.js_tree.specs.declared.operators.UpdateOp.{UpdateOp}
-use Rattle.js_tree.specs.Tree.{ExpressionTree, Number, Characters, True, False, Null, This, Name, Array, Object, Function, Numbered, Suffixed, New, Update, Unary, Chain, Conditional, Assign, Comma, absent, present, Expressions, no_expression, an_expression, Items, no_item, an_item, Properties, no_property, a_property, SuffixTree, a_member, an_index, a_call, Suffixes, no_suffix, a_suffix, Operands, no_operand, an_operand, FunctionTree, a_function}
+use Rattle.js_tree.specs.Tree.{ExpressionTree, Number, Characters, Pattern, True, False, Null, This, Name, Array, Object, Function, Numbered, Suffixed, New, Update, Unary, Chain, Conditional, Assign, Comma, absent, present, Expressions, no_expression, an_expression, Items, no_item, an_item, Properties, no_property, a_property, SuffixTree, a_member, an_index, a_call, Suffixes, no_suffix, a_suffix, Operands, no_operand, an_operand, FunctionTree, a_function}
 use Rattle.js_grammar.specs.Operators.{is_target}
+use Rattle.js_pattern_reader.specs.Literal.{Literal}
 use Rattle.js_binding.specs.Scopes.{itself}
 use Rattle.heap_values.specs.declared.ids.Kind.{Kind}
 use Rattle.heap_values.specs.declared.ids.Kind.TheVariants as kind
@@ -27,7 +28,7 @@ use Rattle.js_evaluation.specs.Parts.{expression_part, call_part, construct_part
 use Rattle.js_evaluation.specs.Conversions.{assigned_by, type_text}
 use Rattle.js_evaluation.specs.NativeTable.{constructs, native_of}
 use Rattle.js_evaluation.specs.Expressions as def
-use Rattle.js_law_evaluation.proofs.OfState.{Ends, gives, halts, reads, ◌onto◌, ◌then◌, either, charges-ends, make-ends, define-ends, write_slot-ends, test_text-ends, throw_type_error-ends}
+use Rattle.js_law_evaluation.proofs.OfState.{Ends, gives, halts, reads, ◌onto◌, ◌then◌, either, charges-ends, make-ends, make_pattern-ends, define-ends, write_slot-ends, test_text-ends, throw_type_error-ends}
 use Rattle.js_law_evaluation.proofs.OfObjects.{get-ends, put-ends, test_base-ends, delete_property-ends, closure-ends}
 use Rattle.js_law_evaluation.proofs.OfScoping.{WordsEnd}
 use Rattle.js_law_evaluation.proofs.OfParts.{WithinEnds}
@@ -63,6 +64,10 @@ end_of_array-ends p array count false = gives (value.Object array)
 
 text_literal-ends : (p : Place) (t : List ℕ) → Ends (def.text_literal p t)
 text_literal-ends p t = test_text-ends t p then gives (value.Text t)
+
+pattern_literal-ends : (p : Place) (l : Literal) → Ends (def.pattern_literal p l)
+pattern_literal-ends p l = test_text-ends l.body p then (make_pattern-ends l p onto (λ pattern.
+    define-ends pattern (codes "lastIndex") (value.Number (pos 0)) false false p then gives (value.Object pattern)))
 
 module _ {scoping : Scoping} (words : WordsEnd scoping) (functions : List FunctionTree)
     {go : Within} (ends : WithinEnds go) where
@@ -257,6 +262,7 @@ module _ {scoping : Scoping} (words : WordsEnd scoping) (functions : List Functi
   unfolding def.expression_node
   expression_node-ends cx (Number p n) = gives (value.Number n)
   expression_node-ends cx (Characters p t) = text_literal-ends p t
+  expression_node-ends cx (Pattern p l) = pattern_literal-ends p l
   expression_node-ends cx (True p) = gives (value.Bool true)
   expression_node-ends cx (False p) = gives (value.Bool false)
   expression_node-ends cx (Null p) = gives value.Null

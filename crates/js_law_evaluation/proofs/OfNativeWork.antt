@@ -2,6 +2,7 @@
 use Rattle.std.proofs.Common.{ℕ, List, [], ◌∷◌, true, false, Option, Some, None, Result, Ok, Err, map}
 use Rattle.std.specs.Prelude.{codes, is_some}
 use Rattle.js_tree.specs.declared.place.Place.{Place}
+use Rattle.js_pattern_reader.specs.Literal.{Literal}
 use Rattle.heap_values.specs.declared.answer.HeapAnswer.{HeapAnswer}
 use Rattle.heap_values.specs.declared.built_in.BuiltIn.{BuiltIn}
 use Rattle.heap_values.specs.declared.built_in.BuiltIn.TheVariants as built_in
@@ -35,7 +36,7 @@ use Rattle.js_law_evaluation.proofs.OfObjects.{put_on-ends, is_there-ends, eleme
 
 -- ---- lists
 
-array_of-ends : (vs : List Value) (place : Place) → Ends (def.array_of vs place)
+pub array_of-ends : (vs : List Value) (place : Place) → Ends (def.array_of vs place)
 array_of-ends vs place =
     make-ends kind.Array (Some (built_in_object built_in.ArrayPrototype)) place onto (λ made.
     elements_from-ends place made 0 vs then gives (value.Object made))
@@ -94,7 +95,7 @@ text_end-ends (text.Number n) place = gives (value.Number n)
 text_end-ends text.NotANumber place = fails _ place
 text_end-ends text.TooLong place = fails _ place
 
-text_work-ends : (m : TextMethod) (vs : List Value) (place : Place) → Ends (def.text_work m vs place)
+pub text_work-ends : (m : TextMethod) (vs : List Value) (place : Place) → Ends (def.text_work m vs place)
 text_work-ends m (value.Text t ∷ vs) place = test_text-ends t place then text_end-ends (text_result m t (map def.as_text_arg vs)) place
 text_work-ends m vs place = gives value.Undefined
 
@@ -118,6 +119,12 @@ number_end-ends number.BadRadix place = throw_error-ends built_in.RangeErrorProt
 
 number_work-ends : (m : NumberMethod) (vs : List Value) (place : Place) → Ends (def.number_work m vs place)
 number_work-ends m vs place = number_end-ends (number_result m (map def.as_number_arg vs)) place
+
+-- ---- patterns
+
+pattern_text-ends : (l : Option Literal) (place : Place) → Ends (def.pattern_text l place)
+pattern_text-ends None place = gives value.Undefined
+pattern_text-ends (Some l) place = gives_text-ends (def.literal_text l) place
 
 -- ---- errors
 
@@ -156,3 +163,4 @@ plain_work-ends plain.BooleanValueOf vs place = gives (argument 0 vs)
 plain_work-ends (plain.TextMethod m) vs place = text_work-ends m vs place
 plain_work-ends (plain.NumberMethod m) vs place = number_work-ends m vs place
 plain_work-ends (plain.ArrayMethod m) vs place = array_work-ends m vs place
+plain_work-ends plain.PatternToString vs place = reads (λ s. pattern_text-ends (def.literal_in s.heap (argument 0 vs)) place)

@@ -14,13 +14,16 @@ use Rattle.js_convert.specs.Operators.{is_text}
 use Rattle.array_builtins.specs.Joining as joining
 use Rattle.js_evaluation.specs.declared.native.Native.{Native}
 use Rattle.js_evaluation.specs.declared.native.Native.TheVariants as native
+use Rattle.js_evaluation.specs.declared.native.PatternNative.{PatternNative}
 use Rattle.js_evaluation.specs.declared.native.Conversion.{Conversion}
 use Rattle.js_evaluation.specs.declared.native.Conversion.TheVariants as conversion
 use Rattle.js_evaluation.specs.Objects.{is_callable}
-use Rattle.js_evaluation.specs.Conversions.{Call}
+use Rattle.js_evaluation.specs.Conversions.{Call, number_methods}
 use Rattle.js_evaluation.specs.Handed.{argument}
-use Rattle.js_evaluation.specs.NativeTable.{handed_to, taken_by, conversion_at}
-use Rattle.js_evaluation.specs.NativeWork.{is_array, is_number, elements_walk, plain_walk}
+use Rattle.js_evaluation.specs.NativeTable.{handed_to, taken_by, conversion_at, walk_of}
+use Rattle.js_evaluation.specs.NativeWork.{is_array, is_pattern, is_number, elements_walk, plain_walk}
+use Rattle.js_evaluation.specs.Patterns.{read_by}
+use Rattle.js_evaluation.specs.Walks.{values_walk}
 use Rattle.js_evaluation.specs.Natives as def
 use Rattle.js_law_evaluation.proofs.OfState.{Ends, gives, fails, halts, reads, either, ◌onto◌, ◌then◌, charges-ends, throw_type_error-ends}
 use Rattle.js_law_evaluation.proofs.OfHanded.{gives_text-ends}
@@ -28,6 +31,7 @@ use Rattle.js_law_evaluation.proofs.OfObjects.{get-ends}
 use Rattle.js_law_evaluation.proofs.OfConversions.{CallsEnd, to_primitive-ends, to_text-ends}
 use Rattle.js_law_evaluation.proofs.OfPacNatives.{pac_done-ends}
 use Rattle.js_law_evaluation.proofs.OfNativeWork.{plain_work-ends}
+use Rattle.js_law_evaluation.proofs.OfPatterns.{pattern_work-ends}
 
 -- ---- conversions
 
@@ -44,6 +48,8 @@ tested-ends n conversion.ThisText v place = unless_wrong-ends (is_text v) place
 tested-ends n conversion.ThisNumber v place = unless_wrong-ends (is_number v) place
 tested-ends n conversion.ThisBoolean v place = unless_wrong-ends (def.is_boolean v) place
 tested-ends n conversion.ThisArray v place = reads (λ s. unless_left_out-ends (is_array s.heap v) n place)
+tested-ends n conversion.ThisPattern v place = reads (λ s. unless_wrong-ends (is_pattern s.heap v) place)
+tested-ends n conversion.Pattern v place = reads (λ s. unless_left_out-ends (is_pattern s.heap v) n place)
 tested-ends n conversion.Replacement v place = reads (λ s. unless_left_out-ends (not (is_callable s.heap v)) n place)
 tested-ends n c v place = gives tt
 
@@ -63,6 +69,8 @@ settled-ends : (c : Conversion) (v : Value) (place : Place) → Ends (def.settle
 settled-ends conversion.Text v place = gives _
 settled-ends conversion.OptionalText v place = gives _
 settled-ends conversion.Replacement v place = gives _
+settled-ends conversion.PatternOrText v place = gives _
+settled-ends conversion.OptionalPatternOrText v place = gives _
 settled-ends conversion.Position v place = position_of-ends (numeric_of v) place
 settled-ends conversion.Number v place = number_or_none-ends (numeric_of v) place
 settled-ends c v place = gives v
@@ -105,20 +113,34 @@ module _ (call : Call) (call-ends : CallsEnd call) where
       onto (λ message. gives_text-ends (def.joined name message) place))))
   error_text-ends v place = throw_type_error-ends (codes "not an object") place
 
+  -- ---- searches for a pattern
+
+  begin_of-ends : (pattern : Option ObjectId) (place : Place) → Ends (def.begin_of call pattern place)
+  begin_of-ends None place = gives _
+  begin_of-ends (Some pattern) place =
+      get-ends (value.Object pattern) (codes "lastIndex") place
+      onto (λ v. to_primitive-ends call call-ends number_methods v place onto (λ p. position_of-ends (numeric_of p) place))
+
+  pattern_done-ends : (n : PatternNative) (vs : List Value) (handed : ℕ) (place : Place)
+      → Ends (def.pattern_done call n vs handed place)
+  pattern_done-ends n vs handed place =
+      charges-ends (values_walk (walk_of (native.Pattern n)) vs handed) place
+      then reads (λ s. begin_of-ends (read_by n s.heap vs) place onto (λ begin. pattern_work-ends n vs begin place))
+
   -- ---- a call
 
   native_done-ends : (n : Native) (vs handed : List Value) (place : Place) → Ends (def.native_done call n vs handed place)
   native_done-ends (native.Plain n) vs handed place =
       reads (λ s. charges-ends (plain_walk n s.heap vs (length handed)) place) then plain_work-ends n vs place
   native_done-ends (native.Pac f) vs handed place = pac_done-ends f vs place
+  native_done-ends (native.Pattern n) vs handed place = pattern_done-ends n vs (length handed) place
   native_done-ends native.ErrorToString vs handed place = error_text-ends (argument 0 vs) place
   native_done-ends native.ArrayJoin vs handed place = array_text-ends (argument 0 vs) (def.separator_of (argument 1 vs)) handed place
   native_done-ends native.ArrayToString vs handed place = array_text-ends (argument 0 vs) (codes ",") handed place
 
   primitive_or_kept-ends : (c : Conversion) (v : Value) (place : Place) → Ends (def.primitive_or_kept call c v place)
-  primitive_or_kept-ends c v place =
-      either (def.is_kept c v) (gives v)
-      (to_primitive-ends call call-ends (def.methods_for c) v place onto (λ p. settled-ends c p place))
+  primitive_or_kept-ends c v place = reads (λ s. either (def.is_kept s.heap c v) (gives v)
+      (to_primitive-ends call call-ends (def.methods_for c) v place onto (λ p. settled-ends c p place)))
 
   converted-ends : (n : Native) (c : Conversion) (v : Value) (place : Place) → Ends (def.converted call n c v place)
   converted-ends n c v place = tested-ends n c v place then primitive_or_kept-ends c v place

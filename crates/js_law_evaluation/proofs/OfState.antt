@@ -2,6 +2,7 @@
 use Rattle.std.proofs.Common.{ℕ, List, Bool, true, false, if◌then◌else◌, Option, Some, Result, Ok, Err}
 use Rattle.std.specs.Prelude.{◌-◌, length, nat_lt, codes}
 use Rattle.js_tree.specs.declared.place.Place.{Place}
+use Rattle.js_pattern_reader.specs.Literal.{Literal}
 use Rattle.heap_values.specs.declared.answer.HeapAnswer.{HeapAnswer}
 use Rattle.heap_values.specs.declared.ids.Kind.{Kind}
 use Rattle.heap_values.specs.declared.ids.Kind.TheVariants as kind
@@ -12,14 +13,14 @@ use Rattle.heap_values.specs.declared.built_in.BuiltIn.TheVariants as built_in
 use Rattle.heap_values.specs.declared.value.Value.{Value}
 use Rattle.heap_values.specs.declared.value.Value.TheVariants.{Text, Object}
 use Rattle.heap_values.specs.Views.{HeapView}
-use Rattle.object_heap.specs.Heap.{made_of, scope_made_of, text_spent_of}
+use Rattle.object_heap.specs.Heap.{made_of, pattern_made_of, scope_made_of, text_spent_of}
 use Rattle.run_trees.specs.Runs.{pure, abrupt, halt, reading, changing, ◌>>=◌, ◌>>◌, with_last, catching, breaking, turning, returning}
 use Rattle.run_trees.specs.OneEnd.{HasOneEnd}
 use Rattle.run_trees.proofs.Ending.{one_end-ends, one_end-halt, one_end-next, one_end-with_last, one_end-reading, one_end-changing, one_end-if, one_end-catching, one_end-breaking, one_end-turning, one_end-returning}
 use Rattle.js_evaluation.specs.declared.fault.FaultCode.{FaultCode}
 use Rattle.js_evaluation.specs.declared.fault.FaultCode.TheVariants as code
 use Rattle.js_evaluation.specs.declared.thrown.Thrown.{Thrown}
-use Rattle.js_evaluation.specs.State.{RunState, RunEnd, Stop, Does, fault, charges, with_heap, made, changed, make, make_scope, define, write_slot, spend, test_text, built_in_object, throw, throw_error, throw_type_error}
+use Rattle.js_evaluation.specs.State.{RunState, RunEnd, Stop, Does, fault, charges, with_heap, made, changed, make, make_pattern, make_scope, define, write_slot, spend, test_text, built_in_object, throw, throw_error, throw_type_error}
 use Rattle.js_law_evaluation.proofs.Asking.{KeepsToLookupNames, asking-ends, asking-halt, asking-next, asking-with_last, asking-reading, asking-changing, asking-if, asking-catching, asking-breaking, asking-turning, asking-returning}
 use Rattle.utf16_text.specs.declared.limits.TheConstants.{LONGEST_TEXT}
 
@@ -129,6 +130,9 @@ changed-ends place (Err e) = fails _ place
 
 pub make-ends : (k : Kind) (prototype : Option ObjectId) (place : Place) → Ends (make k prototype place)
 make-ends k prototype place = reads (λ s. made-ends place (made_of s.heap k prototype))
+
+pub make_pattern-ends : (l : Literal) (place : Place) → Ends (make_pattern l place)
+make_pattern-ends l place = reads (λ s. made-ends place (pattern_made_of s.heap l (Some (built_in_object built_in.PatternPrototype))))
 
 pub make_scope-ends : (size : ℕ) (around : ScopeId) (place : Place) → Ends (make_scope size around place)
 make_scope-ends size around place = reads (λ s. made-ends place (scope_made_of s.heap size (Some around)))

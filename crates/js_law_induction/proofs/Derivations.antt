@@ -18,7 +18,7 @@ use Rattle.js_tree.specs.declared.statement.Declared.{Declared}
 use Rattle.js_tree.specs.declared.statement.Branch.{Branch}
 use Rattle.js_tree.specs.declared.statement.Clause.{Clause}
 use Rattle.js_tree.specs.declared.statement.Catch.{Catch}
-use Rattle.js_tree.specs.Tree.{ExpressionTree, Number, Characters, True, False, Null, This, Name, Array, Object, Function, New, Update, Unary, Conditional, Assign, StatementTree, Block, Empty, Evaluate, Debugger, Var, If, DoWhile, While, For, ForIn, Continue, Break, Return, Throw, Switch, Try, Declare, absent, present, StartTree, no_start, start_var, start_value, TargetTree, target_value, target_declared, optional_of, expressions_of, items_of, statements_of}
+use Rattle.js_tree.specs.Tree.{ExpressionTree, Number, Characters, Pattern, True, False, Null, This, Name, Array, Object, Function, New, Update, Unary, Conditional, Assign, StatementTree, Block, Empty, Evaluate, Debugger, Var, If, DoWhile, While, For, ForIn, Continue, Break, Return, Throw, Switch, Try, Declare, absent, present, StartTree, no_start, start_var, start_value, TargetTree, target_value, target_declared, optional_of, expressions_of, items_of, statements_of}
 use Rattle.js_tree.specs.View.{properties_of, function_of, declarations_of, branches_of, clauses_of}
 use Rattle.js_tree.specs.Parts.{statement_or_none, catch_or_none}
 use Rattle.js_grammar.specs.declared.form.Form.{Form}
@@ -92,6 +92,7 @@ module _ (k : Kept) where
   pub data Expression : List Token → ExpressionTree → List Token → Type 0 where
     number : {t : Token} {n ts : _} → t.kind ≡ token.Number n → Expression (t ∷ ts) (Number t.place n) ts
     characters : {t : Token} {x ts : _} → t.kind ≡ token.Text x → Expression (t ∷ ts) (Characters t.place x) ts
+    pattern : {t : Token} {l ts : _} → t.kind ≡ token.Pattern l → Expression (t ∷ ts) (Pattern t.place l) ts
     name : {t : Token} {w ts : _} → t.kind ≡ token.Word w → keyword_of w ≡ None
         → Expression (t ∷ ts) (Name t.place (unbound w)) ts
     this : {p a b : _} → Behind word.This a b → Expression a (This p) b

@@ -205,6 +205,7 @@ module _ (o : Other) (m : Moves o.at) (k : Kept) (r : Rules k) (end : Place) (ro
       → Continues (t ∷ ts) (t ∷ ts) (primary_by end d kind t.place (t ∷ ts) ts) (primary_by (o.at end) e kind (o.at t.place) (moved o.at (t ∷ ts)) (moved o.at ts))
   primary_by_keeps (token.Number n) t ts h = skip (t ∷ ts) (both ts (m.number t.place n) (r.expression (derived.number h)))
   primary_by_keeps (token.Text x) t ts h = skip (t ∷ ts) (both ts (m.characters t.place x) (r.expression (derived.characters h)))
+  primary_by_keeps (token.Pattern l) t ts h = skip (t ∷ ts) (both ts (m.pattern t.place l) (r.expression (derived.pattern h)))
   primary_by_keeps (token.Word w) t ts h = word_value_keeps (keyword_of w) w t ts h refl
   primary_by_keeps (token.Sign s) t ts h = sign_value_keeps s t ts (ap sign_of h)
 

@@ -19,7 +19,7 @@ use Rattle.js_tree.specs.declared.statement.Declared.{Declared}
 use Rattle.js_tree.specs.declared.statement.Branch.{Branch}
 use Rattle.js_tree.specs.declared.statement.Clause.{Clause}
 use Rattle.js_tree.specs.declared.statement.Catch.{Catch}
-use Rattle.js_tree.specs.Tree.{ExpressionTree, Number, Characters, True, False, Null, This, Name, Array, Object, Function, New, Update, Unary, Conditional, Assign, StatementTree, Block, Empty, Evaluate, Debugger, Var, If, DoWhile, While, For, ForIn, Continue, Break, Return, Throw, Switch, Try, Declare, absent, present, StartTree, no_start, start_var, start_value, TargetTree, target_value, target_declared, optional_of, expressions_of, items_of, statements_of}
+use Rattle.js_tree.specs.Tree.{ExpressionTree, Number, Characters, Pattern, True, False, Null, This, Name, Array, Object, Function, New, Update, Unary, Conditional, Assign, StatementTree, Block, Empty, Evaluate, Debugger, Var, If, DoWhile, While, For, ForIn, Continue, Break, Return, Throw, Switch, Try, Declare, absent, present, StartTree, no_start, start_var, start_value, TargetTree, target_value, target_declared, optional_of, expressions_of, items_of, statements_of}
 use Rattle.js_tree.specs.View.{properties_of, function_of, declarations_of, branches_of, clauses_of}
 use Rattle.js_tree.specs.Parts.{statement_or_none, catch_or_none}
 use Rattle.js_grammar.specs.Operators.{is_target}
@@ -65,6 +65,7 @@ pub record Moves (at : Place → Place) : Type 0 where
   pub expression : ExpressionTree → ExpressionTree
   pub number : (p : Place) (n : _) → Number (at p) n ≡ expression (Number p n)
   pub characters : (p : Place) (x : List ℕ) → Characters (at p) x ≡ expression (Characters p x)
+  pub pattern : (p : Place) (l : _) → Pattern (at p) l ≡ expression (Pattern p l)
   pub is_true : (p : Place) → True (at p) ≡ expression (True p)
   pub is_false : (p : Place) → False (at p) ≡ expression (False p)
   pub null : (p : Place) → Null (at p) ≡ expression (Null p)
@@ -153,6 +154,7 @@ unmoved = record {
   expression = stays;
   number = λ p n. refl;
   characters = λ p x. refl;
+  pattern = λ p l. refl;
   is_true = λ p. refl;
   is_false = λ p. refl;
   null = λ p. refl;

@@ -31,15 +31,10 @@ abbrev pub GlobalsAgree : Type 0
 GlobalsAgree = list_all is_told_global (rows_at roots 2 ++ rows_at roots 0) ≡ true
 
 -- ---- properties that objects inherit: those of Object.prototype, and of the prototypes of arrays, texts, numbers,
--- truths and errors
+-- truths, errors and patterns
 
 abbrev pub is_told_member : Row → Bool
 is_told_member row = are_same (is_some (missing_by (standing_among members row.0))) (is_left_out row.1)
-
-abbrev pub MembersAgree : Type 0
-MembersAgree = list_all is_told_member (rows_at roots 0 ++ flat_map (λ (object : TableObject). object.1) prototypes) ≡ true
-
--- ---- properties that functions inherit from Function.prototype
 
 abbrev pub is_named : List ℕ → Row → Bool
 is_named x row = bytes_eq x row.0
@@ -47,6 +42,15 @@ is_named x row = bytes_eq x row.0
 -- every object has a property of this name
 abbrev pub is_common : Row → Bool
 is_common row = list_any (is_named row.0) (rows_at roots 0)
+
+-- what is left out under such a name isn't told by the name alone
+abbrev pub is_hidden : Row → Bool
+is_hidden row = is_left_out row.1 && is_common row
+
+abbrev pub MembersAgree : Type 0
+MembersAgree = list_all (λ (row : Row). is_hidden row || is_told_member row) (rows_at roots 0 ++ flat_map (λ (object : TableObject). object.1) prototypes) ≡ true
+
+-- ---- properties that functions inherit from Function.prototype
 
 abbrev pub FunctionsAgree : Type 0
 FunctionsAgree = list_all (λ (row : Row). is_common row || is_told_member row) (rows_at roots 1) ≡ true

@@ -6,7 +6,8 @@ pub fn globals_agree()
     ensures { GlobalsAgree }
 {}
 
-/// A property that objects inherit is told by its name exactly where it is left out.
+/// A property that objects inherit is told by its name exactly where it is left out, unless every object has one of that
+/// name.
 pub fn members_agree()
     ensures { MembersAgree }
 {}

@@ -6,6 +6,7 @@ mod OfObjects
 mod OfHanded
 mod OfConversions
 mod OfNativeWork
+mod OfPatterns
 mod OfPacNatives
 mod OfNatives
 mod OfNames

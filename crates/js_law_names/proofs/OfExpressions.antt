@@ -10,8 +10,9 @@ use Rattle.js_tree.specs.declared.operators.UnaryOp.{UnaryOp}
 use Rattle.js_tree.specs.declared.operators.UnaryOp.TheVariants as unary
 use Rattle.js_tree.specs.declared.operators.UpdateForm.{UpdateForm}
 use Rattle.js_tree.specs.declared.operators.UpdateOp.{UpdateOp}
-use Rattle.js_tree.specs.Tree.{ExpressionTree, Number, Characters, True, False, Null, This, Name, Array, Object, Function, Numbered, Suffixed, New, Update, Unary, Chain, Conditional, Assign, Comma, absent, present, Expressions, no_expression, an_expression, Items, no_item, an_item, Properties, no_property, a_property, SuffixTree, a_member, an_index, a_call, Suffixes, no_suffix, a_suffix, Operands, no_operand, an_operand, FunctionTree, a_function}
+use Rattle.js_tree.specs.Tree.{ExpressionTree, Number, Characters, Pattern, True, False, Null, This, Name, Array, Object, Function, Numbered, Suffixed, New, Update, Unary, Chain, Conditional, Assign, Comma, absent, present, Expressions, no_expression, an_expression, Items, no_item, an_item, Properties, no_property, a_property, SuffixTree, a_member, an_index, a_call, Suffixes, no_suffix, a_suffix, Operands, no_operand, an_operand, FunctionTree, a_function}
 use Rattle.js_grammar.specs.Operators.{ends_in_part, is_target}
+use Rattle.js_pattern_reader.specs.Literal.{Literal}
 use Rattle.js_binding.specs.Scopes.{Scope, itself}
 use Rattle.js_binding.specs.Source.{unbound}
 use Rattle.js_binding.specs.Resolved.{around_function}
@@ -36,7 +37,7 @@ use Rattle.js_law_right.specs.Right.{Setting, right, own_in}
 use Rattle.js_law_right.specs.Unbound.{expression_unbound, expressions_unbound, items_unbound, properties_unbound, suffix_unbound, suffixes_unbound, operands_unbound, function_unbound}
 use Rattle.js_law_names.proofs.Worlds.{Shape}
 use Rattle.js_law_names.proofs.Agreeing.{Agrees, along, gives, halts, sees, later, ◌onto◌, ◌then◌, either, either_same}
-use Rattle.js_law_names.proofs.OfState.{charges-agrees, make-agrees, define-agrees, write_slot-agrees, test_text-agrees, throw_type_error-agrees}
+use Rattle.js_law_names.proofs.OfState.{charges-agrees, make-agrees, make_pattern-agrees, define-agrees, write_slot-agrees, test_text-agrees, throw_type_error-agrees}
 use Rattle.js_law_names.proofs.OfObjects.{put-agrees, test_base-agrees}
 use Rattle.js_law_names.proofs.OfConversions.{CallsAgree, call_value-agrees, to_text-agrees, to_number-agrees, to_bits-agrees, binary-agrees, stepped-agrees}
 use Rattle.js_law_names.proofs.OfNames.{closes, in_new_scope, reads_name}
@@ -135,6 +136,11 @@ module _ {setting : ℕ → Setting} (functions : List FunctionTree) (owns : (n 
 
     text_literal-agrees : (p : Place) (t : List ℕ) → Agrees setting z (def.text_literal p t) (def.text_literal p t)
     text_literal-agrees p t = test_text-agrees t p then gives (value.Text t)
+
+    pattern_literal-agrees : (p : Place) (l : Literal)
+        → Agrees setting z (def.pattern_literal p l) (def.pattern_literal p l)
+    pattern_literal-agrees p l = test_text-agrees l.body p then (make_pattern-agrees l p onto (λ pattern.
+        define-agrees pattern (codes "lastIndex") (value.Number (pos 0)) false false p then gives (value.Object pattern)))
 
     -- ---- functions
 
@@ -341,6 +347,7 @@ module _ {setting : ℕ → Setting} (functions : List FunctionTree) (owns : (n 
     unfolding def.expression_node
     expression_node-agrees (Number p n) r = gives (value.Number n)
     expression_node-agrees (Characters p t) r = text_literal-agrees p t
+    expression_node-agrees (Pattern p l) r = pattern_literal-agrees p l
     expression_node-agrees (True p) r = gives (value.Bool true)
     expression_node-agrees (False p) r = gives (value.Bool false)
     expression_node-agrees (Null p) r = gives value.Null

@@ -2,6 +2,7 @@
 use Rattle.std.proofs.Common.{ℕ, List, [], ◌∷◌, true, false, Option, Some, None, Result, Ok, Err, map, refl}
 use Rattle.std.specs.Prelude.{codes, is_some}
 use Rattle.js_tree.specs.declared.place.Place.{Place}
+use Rattle.js_pattern_reader.specs.Literal.{Literal}
 use Rattle.heap_values.specs.declared.answer.HeapAnswer.{HeapAnswer}
 use Rattle.heap_values.specs.declared.built_in.BuiltIn.{BuiltIn}
 use Rattle.heap_values.specs.declared.built_in.BuiltIn.TheVariants as built_in
@@ -40,7 +41,7 @@ use Rattle.js_law_names.proofs.OfHanded.{gives_text-agrees, given-agrees}
 module _ {setting : ℕ → Setting} where
   -- ---- lists
 
-  array_of-agrees : {z : RunState} (vs : List Value) (place : Place)
+  pub array_of-agrees : {z : RunState} (vs : List Value) (place : Place)
       → Agrees setting z (def.array_of vs place) (def.array_of vs place)
   array_of-agrees vs place =
       make-agrees kind.Array (Some (built_in_object built_in.ArrayPrototype)) place (λ _n _i e. cc) onto (λ made.
@@ -109,7 +110,7 @@ module _ {setting : ℕ → Setting} where
   text_end-agrees text.NotANumber place = fails _ place
   text_end-agrees text.TooLong place = fails _ place
 
-  text_work-agrees : {z : RunState} (m : TextMethod) (vs : List Value) (place : Place)
+  pub text_work-agrees : {z : RunState} (m : TextMethod) (vs : List Value) (place : Place)
       → Agrees setting z (def.text_work m vs place) (def.text_work m vs place)
   text_work-agrees m (value.Text t ∷ vs) place = test_text-agrees t place then text_end-agrees (text_result m t (map def.as_text_arg vs)) place
   text_work-agrees m vs place = gives value.Undefined
@@ -138,6 +139,13 @@ module _ {setting : ℕ → Setting} where
   number_work-agrees : {z : RunState} (m : NumberMethod) (vs : List Value) (place : Place)
       → Agrees setting z (def.number_work m vs place) (def.number_work m vs place)
   number_work-agrees m vs place = number_end-agrees (number_result m (map def.as_number_arg vs)) place
+
+  -- ---- patterns
+
+  pattern_text-agrees : {z : RunState} (l : Option Literal) (place : Place)
+      → Agrees setting z (def.pattern_text l place) (def.pattern_text l place)
+  pattern_text-agrees None place = gives value.Undefined
+  pattern_text-agrees (Some l) place = gives_text-agrees (def.literal_text l) place
 
   -- ---- errors
 
@@ -179,3 +187,4 @@ module _ {setting : ℕ → Setting} where
   plain_work-agrees (plain.TextMethod m) vs place = text_work-agrees m vs place
   plain_work-agrees (plain.NumberMethod m) vs place = number_work-agrees m vs place
   plain_work-agrees (plain.ArrayMethod m) vs place = array_work-agrees m vs place
+  plain_work-agrees plain.PatternToString vs place = sees (λ z _l _f. pattern_text-agrees (def.literal_in z.heap (argument 0 vs)) place) (λ z. refl)

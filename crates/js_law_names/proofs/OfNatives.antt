@@ -14,14 +14,17 @@ use Rattle.js_convert.specs.Operators.{is_text}
 use Rattle.array_builtins.specs.Joining as joining
 use Rattle.js_evaluation.specs.declared.native.Native.{Native}
 use Rattle.js_evaluation.specs.declared.native.Native.TheVariants as native
+use Rattle.js_evaluation.specs.declared.native.PatternNative.{PatternNative}
 use Rattle.js_evaluation.specs.declared.native.Conversion.{Conversion}
 use Rattle.js_evaluation.specs.declared.native.Conversion.TheVariants as conversion
 use Rattle.js_evaluation.specs.State.{RunState}
 use Rattle.js_evaluation.specs.Objects.{is_callable}
 use Rattle.js_evaluation.specs.Handed.{argument}
-use Rattle.js_evaluation.specs.Conversions.{Call}
-use Rattle.js_evaluation.specs.NativeTable.{handed_to, taken_by, conversion_at}
-use Rattle.js_evaluation.specs.NativeWork.{is_array, is_number, elements_walk, plain_walk}
+use Rattle.js_evaluation.specs.Conversions.{Call, number_methods}
+use Rattle.js_evaluation.specs.NativeTable.{handed_to, taken_by, conversion_at, walk_of}
+use Rattle.js_evaluation.specs.NativeWork.{is_array, is_pattern, is_number, elements_walk, plain_walk}
+use Rattle.js_evaluation.specs.Patterns.{read_by}
+use Rattle.js_evaluation.specs.Walks.{values_walk}
 use Rattle.js_evaluation.specs.Natives as def
 use Rattle.js_law_right.specs.Right.{Setting}
 use Rattle.js_law_names.proofs.Agreeing.{Agrees, gives, halts, fails, sees, ◌onto◌, ◌then◌, either}
@@ -30,6 +33,7 @@ use Rattle.js_law_names.proofs.OfObjects.{get-agrees}
 use Rattle.js_law_names.proofs.OfHanded.{gives_text-agrees}
 use Rattle.js_law_names.proofs.OfConversions.{CallsAgree, to_primitive-agrees, to_text-agrees}
 use Rattle.js_law_names.proofs.OfNativeWork.{plain_work-agrees}
+use Rattle.js_law_names.proofs.OfPatterns.{pattern_work-agrees}
 use Rattle.js_law_names.proofs.OfPacNatives.{pac_done-agrees}
 
 module _ {setting : ℕ → Setting} where
@@ -51,6 +55,8 @@ module _ {setting : ℕ → Setting} where
   tested-agrees n conversion.ThisNumber v place = unless_wrong-agrees (is_number v) place
   tested-agrees n conversion.ThisBoolean v place = unless_wrong-agrees (def.is_boolean v) place
   tested-agrees n conversion.ThisArray v place = sees (λ z _l _f. unless_left_out-agrees (is_array z.heap v) n place) (λ z. refl)
+  tested-agrees n conversion.ThisPattern v place = sees (λ z _l _f. unless_wrong-agrees (is_pattern z.heap v) place) (λ z. refl)
+  tested-agrees n conversion.Pattern v place = sees (λ z _l _f. unless_left_out-agrees (is_pattern z.heap v) n place) (λ z. refl)
   tested-agrees n conversion.Replacement v place = sees (λ z _l _f. unless_left_out-agrees (not (is_callable z.heap v)) n place) (λ z. refl)
   tested-agrees n c v place = gives tt
 
@@ -73,6 +79,8 @@ module _ {setting : ℕ → Setting} where
   settled-agrees conversion.Text v place = gives _
   settled-agrees conversion.OptionalText v place = gives _
   settled-agrees conversion.Replacement v place = gives _
+  settled-agrees conversion.PatternOrText v place = gives _
+  settled-agrees conversion.OptionalPatternOrText v place = gives _
   settled-agrees conversion.Position v place = position_of-agrees (numeric_of v) place
   settled-agrees conversion.Number v place = number_or_none-agrees (numeric_of v) place
   settled-agrees c v place = gives v
@@ -120,6 +128,21 @@ module _ {setting : ℕ → Setting} where
         onto (λ message. gives_text-agrees (def.joined name message) place))))
     error_text-agrees v place = throw_type_error-agrees (codes "not an object") place
 
+    -- ---- searches for a pattern
+
+    begin_of-agrees : {z : RunState} (pattern : Option ObjectId) (place : Place)
+        → Agrees setting z (def.begin_of call pattern place) (def.begin_of call' pattern place)
+    begin_of-agrees None place = gives _
+    begin_of-agrees (Some pattern) place =
+        get-agrees (value.Object pattern) (codes "lastIndex") place
+        onto (λ v. to_primitive-agrees call call' call-agrees number_methods v place onto (λ p. position_of-agrees (numeric_of p) place))
+
+    pattern_done-agrees : {z : RunState} (n : PatternNative) (vs : List Value) (handed : ℕ) (place : Place)
+        → Agrees setting z (def.pattern_done call n vs handed place) (def.pattern_done call' n vs handed place)
+    pattern_done-agrees n vs handed place =
+        charges-agrees (values_walk (walk_of (native.Pattern n)) vs handed) place
+        then sees (λ z _l _f. begin_of-agrees (read_by n z.heap vs) place onto (λ begin. pattern_work-agrees n vs begin place)) (λ z. refl)
+
     -- ---- a call
 
     native_done-agrees : {z : RunState} (n : Native) (vs handed : List Value) (place : Place)
@@ -127,15 +150,15 @@ module _ {setting : ℕ → Setting} where
     native_done-agrees (native.Plain n) vs handed place =
         sees (λ z _l _f. charges-agrees (plain_walk n z.heap vs (length handed)) place) (λ z. refl) then plain_work-agrees n vs place
     native_done-agrees (native.Pac f) vs handed place = pac_done-agrees f vs place
+    native_done-agrees (native.Pattern n) vs handed place = pattern_done-agrees n vs (length handed) place
     native_done-agrees native.ErrorToString vs handed place = error_text-agrees (argument 0 vs) place
     native_done-agrees native.ArrayJoin vs handed place = array_text-agrees (argument 0 vs) (def.separator_of (argument 1 vs)) handed place
     native_done-agrees native.ArrayToString vs handed place = array_text-agrees (argument 0 vs) (codes ",") handed place
 
     primitive_or_kept-agrees : {z : RunState} (c : Conversion) (v : Value) (place : Place)
         → Agrees setting z (def.primitive_or_kept call c v place) (def.primitive_or_kept call' c v place)
-    primitive_or_kept-agrees c v place =
-        either (def.is_kept c v) (gives v)
-        (to_primitive-agrees call call' call-agrees (def.methods_for c) v place onto (λ p. settled-agrees c p place))
+    primitive_or_kept-agrees c v place = sees (λ z _l _f. either (def.is_kept z.heap c v) (gives v)
+        (to_primitive-agrees call call' call-agrees (def.methods_for c) v place onto (λ p. settled-agrees c p place))) (λ z. refl)
 
     converted-agrees : {z : RunState} (n : Native) (c : Conversion) (v : Value) (place : Place)
         → Agrees setting z (def.converted call n c v place) (def.converted call' n c v place)

@@ -3,6 +3,7 @@ use Rattle.std.proofs.Common.{◌≡◌, refl, sym, ◌∙◌, ap, ℕ, ◌+◌,
 use Rattle.std.specs.Prelude.{◌-◌, length, nat_lt, slice_get, codes}
 use Rattle.js_tree.specs.declared.place.Place.{Place}
 use Rattle.utf16_text.specs.declared.limits.TheConstants.{LONGEST_TEXT}
+use Rattle.js_pattern_reader.specs.Literal.{Literal}
 use Rattle.heap_values.specs.declared.answer.HeapAnswer.{HeapAnswer}
 use Rattle.heap_values.specs.declared.ids.Kind.{Kind}
 use Rattle.heap_values.specs.declared.ids.Kind.TheVariants as kind
@@ -14,13 +15,13 @@ use Rattle.heap_values.specs.declared.value.Value.{Value}
 use Rattle.heap_values.specs.declared.value.Value.TheVariants.{Text, Object}
 use Rattle.heap_values.specs.Views.{HeapView}
 use Rattle.heap_objects.specs.Object.{value_property}
-use Rattle.object_heap.specs.Heap.{kind_in, made_of, stored, text_spent_of}
+use Rattle.object_heap.specs.Heap.{kind_in, made_of, pattern_made_of, stored, text_spent_of}
 use Rattle.object_heap.specs.declared.limits.TheConstants.{MOST_TEXT}
 use Rattle.run_trees.specs.Runs.{changing}
 use Rattle.js_evaluation.specs.declared.fault.FaultCode.TheVariants as fault_code
-use Rattle.js_evaluation.specs.State.{RunState, charges, made, changed, make, define, write_slot, spend, test_text, built_in_object, throw, throw_error, throw_type_error}
+use Rattle.js_evaluation.specs.State.{RunState, charges, made, changed, make, make_pattern, define, write_slot, spend, test_text, built_in_object, throw, throw_error, throw_type_error}
 use Rattle.js_law_right.specs.Right.{Setting}
-use Rattle.js_law_names.proofs.Steady.{Leads, itself, beside, made_leads, stored_steady, leads_if}
+use Rattle.js_law_names.proofs.Steady.{Leads, itself, beside, made_leads, pattern_made_leads, stored_steady, leads_if}
 use Rattle.js_law_names.proofs.Worlds.{Later, Fine, shape_later, written_kept, length_with, kinds_with}
 use Rattle.js_law_names.proofs.Agreeing.{Agrees, Now, gives, stops, fails, sees, sees_now, heap_now, only_heap_now, halts_now, changes, ◌onto◌, ◌then◌, either}
 
@@ -51,6 +52,12 @@ module _ {setting : ℕ → Setting} where
       → ((n : ℕ) (scope : ScopeId) → k ≡ kind.Function n scope → ⊥)
       → Agrees setting z (make k prototype place) (make k prototype place)
   make-agrees k prototype place other = sees_now (λ z _l f. made_now place (made_of z.heap k prototype) (made_leads z.heap k prototype other) f) (λ z. refl)
+
+  pub make_pattern-agrees : {z : RunState} (l : Literal) (place : Place)
+      → Agrees setting z (make_pattern l place) (make_pattern l place)
+  make_pattern-agrees l place =
+      let prototype : Option ObjectId = Some (built_in_object built_in.PatternPrototype) in
+      sees_now (λ z _l f. made_now place (pattern_made_of z.heap l prototype) (pattern_made_leads z.heap l prototype) f) (λ z. refl)
 
   pub define-agrees : {z : RunState} (object : ObjectId) (name : List ℕ) (v : Value) (listed deletable : Bool) (place : Place)
       → Agrees setting z (define object name v listed deletable place) (define object name v listed deletable place)

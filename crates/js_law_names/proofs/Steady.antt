@@ -2,6 +2,7 @@
 use Rattle.std.proofs.Common.{◌≡◌, ℕ, zero, suc, ◌+◌, ◌-◌, pos, List, [], ◌∷◌, ◌++◌, length, Bool, true, false, if◌then◌else◌, Option, Some, None, Result, Ok, Err, refl, sym, ◌∙◌, ap}
 use Rattle.std.specs.Prelude.{negsuc, slice_get, slice_set, nat_eq, nat_le, nat_lt, ◌/◌, codes}
 use Rattle.std.specs.Fmt.{decimal}
+use Rattle.js_pattern_reader.specs.Literal.{Literal}
 use Rattle.heap_values.specs.declared.answer.HeapAnswer.{HeapAnswer}
 use Rattle.heap_values.specs.declared.ids.Kind.{Kind}
 use Rattle.heap_values.specs.declared.ids.Kind.TheVariants as kind
@@ -13,7 +14,7 @@ use Rattle.heap_values.specs.declared.value.Value.TheVariants as value
 use Rattle.heap_values.specs.Views.{HeapView, ObjectView}
 use Rattle.heap_objects.specs.Object.{is_length, object_with, object_without, object_cut, can_delete, empty_object}
 use Rattle.heap_elements.specs.Properties.{property_at}
-use Rattle.object_heap.specs.Heap.{object_at, kind_in, older_of, made_of, length_stored, property_cost, stored_at, stored_in, stored, deleted_in, deleted_of}
+use Rattle.object_heap.specs.Heap.{object_at, kind_in, older_of, made_of, pattern_object, pattern_made_of, length_stored, property_cost, stored_at, stored_in, stored, deleted_in, deleted_of}
 use Rattle.object_heap.specs.declared.limits.TheConstants.{LONGEST_ARRAY, MOST_CELLS}
 use Rattle.array_builtins.specs.declared.call.ArrayMethod.{ArrayMethod}
 use Rattle.array_builtins.specs.declared.call.ArrayMethod.TheVariants as method
@@ -218,6 +219,11 @@ pub made_leads : (h : HeapView) (k : Kind) (prototype : Option ObjectId)
     → ((n : ℕ) (scope : ScopeId) → k ≡ kind.Function n scope → ⊥) → Leads beside h (made_of h k prototype)
 made_leads h k prototype not = leads_if beside h (nat_le MOST_CELLS h.cells) _ _ tt
     (record { scopes = refl; functions = λ i n scope e. made_kind h.objects (empty_object k (older_of prototype (length h.objects))) i n scope (not n scope) e })
+
+pub pattern_made_leads : (h : HeapView) (l : Literal) (prototype : Option ObjectId)
+    → Leads beside h (pattern_made_of h l prototype)
+pattern_made_leads h l prototype = leads_if beside h (nat_le MOST_CELLS h.cells) _ _ tt
+    (record { scopes = refl; functions = λ i n scope e. made_kind h.objects (pattern_object (length h.literals) l (older_of prototype (length h.objects))) i n scope (λ f. cc) e })
 
 array_leads : (h : HeapView) → Leads beside h (def.array_made h)
 array_leads h = made_leads h kind.Array (Some def.array_prototype) (λ n scope e. cc)

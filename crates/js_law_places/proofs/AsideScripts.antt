@@ -20,6 +20,7 @@ aside = record {
   expression = placeless_expression;
   number = λ p n. refl;
   characters = λ p x. refl;
+  pattern = λ p l. refl;
   is_true = λ p. refl;
   is_false = λ p. refl;
   null = λ p. refl;

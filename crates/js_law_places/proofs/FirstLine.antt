@@ -68,6 +68,7 @@ module _ (end : Place) where
   primary_by_unseen : (d : Deeper) (k : TokenKind) (p : Place) (t : Token) (ts : List Token) → primary_by end d k p (below t ∷ ts) ts ≡ primary_by end d k p (beside t ∷ ts) ts
   primary_by_unseen d (token.Number n) p t ts = refl
   primary_by_unseen d (token.Text x) p t ts = refl
+  primary_by_unseen d (token.Pattern l) p t ts = refl
   primary_by_unseen d (token.Word w) p t ts = refl
   primary_by_unseen d (token.Sign s) p t ts = sign_value_unseen d s p t ts
 

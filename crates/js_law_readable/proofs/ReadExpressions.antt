@@ -247,6 +247,7 @@ module _ (end : Place) (d : Deeper) (g : PartsRead d) where
   primary_by_reads : (kind : TokenKind) (p : Place) (n : ℕ) (all ts : List Token) → length all ≤ n → length ts ≤ n → Where (Gives IsExpression n) (primary_by end d kind p all ts)
   primary_by_reads (token.Number i) p n all ts h k = (tt, k)
   primary_by_reads (token.Text x) p n all ts h k = (tt, k)
+  primary_by_reads (token.Pattern l) p n all ts h k = (tt, k)
   primary_by_reads (token.Word w) p n all ts h k = word_reads (keyword_of w) w p refl n ts k
   primary_by_reads (token.Sign s) p n all ts h k = sign_reads s p n all ts h k
 

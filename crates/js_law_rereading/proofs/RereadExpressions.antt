@@ -1,7 +1,9 @@
 -- Reading each kind of expression that was printed, from how its parts are read.
 use Rattle.std.proofs.Common.{◌≡◌, ℕ, ◌-◌, ◌<◌, ◌≤◌, List, [], ◌∷◌, ◌++◌, length, Some, None, Ok, true, refl, sym, ap, ◌∙◌, append_assoc, length-append, arith}
 use Rattle.js_tree.specs.declared.place.Place.{Place}
+use Rattle.js_pattern_reader.specs.Literal.{Literal}
 use Rattle.js_tree.specs.declared.token.Token.{Token}
+use Rattle.js_tree.specs.declared.token.TokenKind.TheVariants as token
 use Rattle.js_tree.specs.declared.sign.Sign.TheVariants as sign
 use Rattle.js_tree.specs.declared.bound.BoundName.{BoundName}
 use Rattle.js_tree.specs.declared.operators.UnaryOp.{UnaryOp}
@@ -9,7 +11,7 @@ use Rattle.js_tree.specs.declared.operators.UnaryOp.TheVariants as op1
 use Rattle.js_tree.specs.declared.operators.UpdateForm.TheVariants.{Prefix, Postfix}
 use Rattle.js_tree.specs.declared.operators.UpdateOp.{UpdateOp}
 use Rattle.js_tree.specs.declared.operators.UpdateOp.TheVariants.{Increment, Decrement}
-use Rattle.js_tree.specs.Tree.{ExpressionTree, Name, Update, Unary}
+use Rattle.js_tree.specs.Tree.{ExpressionTree, Pattern, Name, Update, Unary}
 use Rattle.js_grammar.specs.declared.turn.Turn.TheVariants.{Last, End}
 use Rattle.js_grammar.specs.declared.form.Form.{Form}
 use Rattle.js_grammar.specs.declared.form.Form.TheVariants.{Plain}
@@ -19,7 +21,7 @@ use Rattle.js_grammar.specs.Readers.{row, next_sign, parted, listed, place_at}
 use Rattle.js_grammar.specs.Operators.{next_unary, next_update, next_postfix, next_binary, at_level, is_target}
 use Rattle.js_grammar.specs.Expressions.{Deeper, a_suffix, suffixed, primary, postfix, unary, level, expression, in_parentheses, arguments_by, an_argument, item_by, item_value}
 use Rattle.js_grammar.specs.Statements.{deeper}
-use Rattle.js_grammar.specs.Printing.{nowhere, sign_token, word_token, unary_token, update_token, in_round, expression_tokens}
+use Rattle.js_grammar.specs.Printing.{nowhere, printed, sign_token, word_token, unary_token, update_token, in_round, expression_tokens}
 use Rattle.js_grammar.specs.Placeless.{placeless_expression}
 use Rattle.js_law_readable.specs.Readable.{IsName, IsExpression}
 use Rattle.js_law_rereading.proofs.Lists.{is_target_placeless}
@@ -84,7 +86,19 @@ module _ (end : Place) where
   round_again e room rest is again fits =
       round_reads end (deeper end room) (expression_tokens e) rest (placeless_expression e) (expression_again e room Plain (closed end rest) is again fits (stops_parenthesis end (deeper end (room - 1)) Plain rest) refl)
 
-  -- ---- names and prefix operators
+  -- ---- pattern literals, names and prefix operators
+
+  pattern_reads : (d : Deeper) (l : Literal) (rest : List Token) → primary end d (printed (token.Pattern l) ∷ rest) ≡ Ok (Pattern nowhere l, rest)
+  unfolding primary
+  pattern_reads d l rest = refl
+
+  pub pattern_node : (l : Literal) (room : ℕ) (rest : List Token) → length (in_round (printed (token.Pattern l) ∷ [])) ≤ room → primary end (deeper end room) (in_round (printed (token.Pattern l) ∷ []) ++ rest) ≡ Ok (Pattern nowhere l, rest)
+  pattern_node l room rest fits =
+      let d = deeper end (room - 1) in
+      let ts = printed (token.Pattern l) ∷ closed end rest in
+      let stops = stops_parenthesis end d Plain rest in
+      brackets_at end room (printed (token.Pattern l) ∷ []) rest (Pattern nowhere l) (omega arith)
+      (value_of_unary end d Plain ts (closed end rest) (Pattern nowhere l) (unary_reads end d ts (closed end rest) (Pattern nowhere l) refl refl (pattern_reads d l (closed end rest)) stops.suffix stops.postfix) stops)
 
   pub name_again : (x : BoundName) (room : ℕ) (rest : List Token) → IsName x → primary end (deeper end room) (word_token x.name ∷ rest) ≡ Ok (Name nowhere x, rest)
   unfolding primary

@@ -6,7 +6,7 @@ use Rattle.std.proofs.lemmas.List.{append-nil}
 use Rattle.js_tree.specs.declared.place.Place.{Place}
 use Rattle.js_tree.specs.declared.token.Token.{Token}
 use Rattle.js_tree.specs.declared.operators.UpdateForm.TheVariants.{Prefix, Postfix}
-use Rattle.js_tree.specs.Tree.{ExpressionTree, Name, Update, Function, OptionalExpression, absent, present, FunctionTree, a_function, StatementTree, Block, Empty, Evaluate, Debugger, Var, If, DoWhile, While, For, ForIn, Continue, Break, Return, Throw, Switch, Try, Declare, DeclareNumbered, OptionalStatement, omitted, given, Statements, no_statement, a_statement, Declarations, no_declared, a_declared, Branches, no_branch, a_branch, no_start, start_var, start_value, target_value, target_declared, Clauses, no_clause, a_clause, CatchTree, no_catch, a_catch, statements_of, Number, Characters, True, False, Null, This, Array, Object, Numbered, Suffixed, New, Unary, Chain, Conditional, Assign, Comma, Expressions, no_expression, an_expression, Items, no_item, an_item, Properties, no_property, a_property, SuffixTree, a_member, an_index, a_call, Suffixes, no_suffix, a_suffix as suffix_more, Operands, no_operand, an_operand as operand_more}
+use Rattle.js_tree.specs.Tree.{ExpressionTree, Pattern, Name, Update, Function, OptionalExpression, absent, present, FunctionTree, a_function, StatementTree, Block, Empty, Evaluate, Debugger, Var, If, DoWhile, While, For, ForIn, Continue, Break, Return, Throw, Switch, Try, Declare, DeclareNumbered, OptionalStatement, omitted, given, Statements, no_statement, a_statement, Declarations, no_declared, a_declared, Branches, no_branch, a_branch, no_start, start_var, start_value, target_value, target_declared, Clauses, no_clause, a_clause, CatchTree, no_catch, a_catch, statements_of, Number, Characters, True, False, Null, This, Array, Object, Numbered, Suffixed, New, Unary, Chain, Conditional, Assign, Comma, Expressions, no_expression, an_expression, Items, no_item, an_item, Properties, no_property, a_property, SuffixTree, a_member, an_index, a_call, Suffixes, no_suffix, a_suffix as suffix_more, Operands, no_operand, an_operand as operand_more}
 use Rattle.js_tree.specs.View.{function_of}
 use Rattle.js_grammar.specs.declared.around.Around.{Around}
 use Rattle.js_grammar.specs.Readers.{row_of}
@@ -18,7 +18,7 @@ use Rattle.js_law_readable.specs.Readable.{IsOwnName, IsExpression, IsOptional, 
 use Rattle.js_law_rereading.specs.Laws.{PrintedTokensAreReadAgain, ScriptsReadAreReadAgain}
 use Rattle.js_law_readable.proofs.ReadScripts.{scripts_law as readable_law}
 use Rattle.js_law_rereading.proofs.Lists.{function_record, statement_list, statements_placeless}
-use Rattle.js_law_rereading.proofs.RereadExpressions.{Rereads, name_again, unary_node, prefix_node, postfix_node}
+use Rattle.js_law_rereading.proofs.RereadExpressions.{Rereads, name_again, pattern_node, unary_node, prefix_node, postfix_node}
 use Rattle.js_law_rereading.proofs.RereadRows.{RereadsArguments, RereadsParts, RereadsItems, RereadsProperties, no_arguments, no_parts, arguments_row, parts_row, comma_node, no_items, hole_row, item_row, array_node, no_properties, property_row, object_node}
 use Rattle.js_law_rereading.proofs.RereadOperators.{RereadsOperands, no_operands, operand_row, chain_node, conditional_node, assign_node}
 use Rattle.js_law_rereading.proofs.RereadSuffixes.{RereadsSuffix, member_again, index_again, call_again, RereadsSuffixes, no_suffixes, suffix_row, suffixed_node, new_node}
@@ -52,6 +52,7 @@ module _ (end : Place) where
     pub again : (e : ExpressionTree) → IsExpression e → Rereads end e
     again (Number p n) is room rest fits = refl
     again (Characters p x) is room rest fits = refl
+    again (Pattern p l) is room rest fits = pattern_node end l room rest fits
     again (True p) is room rest fits = refl
     again (False p) is room rest fits = refl
     again (Null p) is room rest fits = refl

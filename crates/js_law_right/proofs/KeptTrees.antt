@@ -2,7 +2,7 @@
 -- Each tree of a script in which no declared function has a name of its own: once it is resolved it is right, and it
 -- mentions and declares the names that it did. y: the name that is mentioned or not.
 use Rattle.std.proofs.Common.{◌≡◌, ℕ, List, refl}
-use Rattle.js_tree.specs.Tree.{ExpressionTree, Number, Characters, True, False, Null, This, Name, Array, Object, Function, Numbered, Suffixed, New, Update, Unary, Chain, Conditional, Assign, Comma, OptionalExpression, absent, present, Expressions, no_expression, an_expression, Items, no_item, an_item, Properties, no_property, a_property, SuffixTree, a_member, an_index, a_call, Suffixes, no_suffix, a_suffix, Operands, no_operand, an_operand, FunctionTree, a_function, StatementTree, Block, Empty, Evaluate, Debugger, Var, If, DoWhile, While, For, ForIn, Continue, Break, Return, Throw, Switch, Try, Declare, DeclareNumbered, OptionalStatement, omitted, given, Statements, no_statement, a_statement, Declarations, no_declared, a_declared, Branches, no_branch, a_branch, StartTree, no_start, start_var, start_value, TargetTree, target_value, target_declared, Clauses, no_clause, a_clause, CatchTree, no_catch, a_catch}
+use Rattle.js_tree.specs.Tree.{ExpressionTree, Number, Characters, Pattern, True, False, Null, This, Name, Array, Object, Function, Numbered, Suffixed, New, Update, Unary, Chain, Conditional, Assign, Comma, OptionalExpression, absent, present, Expressions, no_expression, an_expression, Items, no_item, an_item, Properties, no_property, a_property, SuffixTree, a_member, an_index, a_call, Suffixes, no_suffix, a_suffix, Operands, no_operand, an_operand, FunctionTree, a_function, StatementTree, Block, Empty, Evaluate, Debugger, Var, If, DoWhile, While, For, ForIn, Continue, Break, Return, Throw, Switch, Try, Declare, DeclareNumbered, OptionalStatement, omitted, given, Statements, no_statement, a_statement, Declarations, no_declared, a_declared, Branches, no_branch, a_branch, StartTree, no_start, start_var, start_value, TargetTree, target_value, target_declared, Clauses, no_clause, a_clause, CatchTree, no_catch, a_catch}
 use Rattle.js_binding.specs.Names.{arguments_name, declared_function, functions_of, mentions, mentions_in, mentions_in_body, mentions_in_branches, mentions_in_clauses, mentions_in_declarations, mentions_in_expressions, mentions_in_handler, mentions_in_items, mentions_in_operands, mentions_in_optional, mentions_in_otherwise, mentions_in_properties, mentions_in_start, mentions_in_suffix, mentions_in_suffixes, mentions_in_target, variables_of, variables_of_all, variables_of_branches, variables_of_clauses, variables_of_declarations, variables_of_handler, variables_of_otherwise, variables_of_start, variables_of_target}
 use Rattle.js_binding.specs.Scopes.{Scope, bound_in}
 use Rattle.js_binding.specs.Resolved.{around_function, in_body, in_handler, expression_in, optional_in, expressions_in, items_in, properties_in, suffix_in, suffixes_in, operands_in, statement_in, otherwise_in, statements_in, declarations_in, branches_in, start_in, target_in, clauses_in, handler_in, function_in}
@@ -20,6 +20,7 @@ mutual
       → Keeps (λ setting r. EachInExpression (right setting) scopes r × (mentions y (expression_unbound r) ≡ mentions y e)) (expression_in scopes e)
   expression_keeps y scopes (Number p n) h = keeps_pure (Number p n) (λ setting. (tt, refl))
   expression_keeps y scopes (Characters p text) h = keeps_pure (Characters p text) (λ setting. (tt, refl))
+  expression_keeps y scopes (Pattern p literal) h = keeps_pure (Pattern p literal) (λ setting. (tt, refl))
   expression_keeps y scopes (True p) h = keeps_pure (True p) (λ setting. (tt, refl))
   expression_keeps y scopes (False p) h = keeps_pure (False p) (λ setting. (tt, refl))
   expression_keeps y scopes (Null p) h = keeps_pure (Null p) (λ setting. (tt, refl))

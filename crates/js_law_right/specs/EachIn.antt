@@ -2,7 +2,7 @@
 -- What is claimed of each name and of each function in a tree, among the scopes around it.
 use Rattle.std.specs.Prelude.{ℕ, List}
 use Rattle.js_tree.specs.declared.bound.BoundName.{BoundName}
-use Rattle.js_tree.specs.Tree.{ExpressionTree, Number, Characters, True, False, Null, This, Name, Array, Object, Function, Numbered, Suffixed, New, Update, Unary, Chain, Conditional, Assign, Comma, OptionalExpression, absent, present, Expressions, no_expression, an_expression, Items, no_item, an_item, Properties, no_property, a_property, SuffixTree, a_member, an_index, a_call, Suffixes, no_suffix, a_suffix, Operands, no_operand, an_operand, FunctionTree, a_function, StatementTree, Block, Empty, Evaluate, Debugger, Var, If, DoWhile, While, For, ForIn, Continue, Break, Return, Throw, Switch, Try, Declare, DeclareNumbered, OptionalStatement, omitted, given, Statements, no_statement, a_statement, Declarations, no_declared, a_declared, Branches, no_branch, a_branch, StartTree, no_start, start_var, start_value, TargetTree, target_value, target_declared, Clauses, no_clause, a_clause, CatchTree, no_catch, a_catch}
+use Rattle.js_tree.specs.Tree.{ExpressionTree, Number, Characters, Pattern, True, False, Null, This, Name, Array, Object, Function, Numbered, Suffixed, New, Update, Unary, Chain, Conditional, Assign, Comma, OptionalExpression, absent, present, Expressions, no_expression, an_expression, Items, no_item, an_item, Properties, no_property, a_property, SuffixTree, a_member, an_index, a_call, Suffixes, no_suffix, a_suffix, Operands, no_operand, an_operand, FunctionTree, a_function, StatementTree, Block, Empty, Evaluate, Debugger, Var, If, DoWhile, While, For, ForIn, Continue, Break, Return, Throw, Switch, Try, Declare, DeclareNumbered, OptionalStatement, omitted, given, Statements, no_statement, a_statement, Declarations, no_declared, a_declared, Branches, no_branch, a_branch, StartTree, no_start, start_var, start_value, TargetTree, target_value, target_declared, Clauses, no_clause, a_clause, CatchTree, no_catch, a_catch}
 use Rattle.js_binding.specs.Scopes.{Scope}
 use Rattle.js_binding.specs.Resolved.{around_function, in_body, in_handler}
 
@@ -19,6 +19,7 @@ abbrev mutual
   pub EachInExpression : Claims → List Scope → ExpressionTree → Type 0
   EachInExpression claims scopes (Number p n) = Unit {0}
   EachInExpression claims scopes (Characters p text) = Unit {0}
+  EachInExpression claims scopes (Pattern p literal) = Unit {0}
   EachInExpression claims scopes (True p) = Unit {0}
   EachInExpression claims scopes (False p) = Unit {0}
   EachInExpression claims scopes (Null p) = Unit {0}

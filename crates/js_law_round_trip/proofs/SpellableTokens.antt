@@ -42,6 +42,7 @@ name_spellable : (k : TokenKind) (x : List ℕ) → name_in k ≡ Some x → is_
 name_spellable (token.Word w) x e h = let same : w ≡ x = cc in subst (λ (us : List ℕ). list_all is_unit us ≡ true) same (all_weaker is_word_part is_unit part_unit w (both_second (first_passes is_word_start w) _ h))
 name_spellable (token.Text w) x e h = let same : w ≡ x = cc in subst (λ (us : List ℕ). list_all is_unit us ≡ true) same h
 name_spellable (token.Number n) x e h = let same : signed_decimal n ≡ x = cc in subst (λ (us : List ℕ). list_all is_unit us ≡ true) same (literal_units n h)
+name_spellable (token.Pattern l) x e h = cc
 name_spellable (token.Sign s) x e h = cc
 
 pub printed_spellable : HoldsOfPrinted (λ k. is_spellable k ≡ true)

@@ -1,7 +1,7 @@
 -- Written by tools/write_tree.py from Tree.antt: change that file, and run the script.
 -- Each tree with its functions by number has the source of the tree, once these are back in their places.
 use Rattle.std.proofs.Common.{refl}
-use Rattle.js_tree.specs.Tree.{ExpressionTree, Number, Characters, True, False, Null, This, Name, Array, Object, Function, Numbered, Suffixed, New, Update, Unary, Chain, Conditional, Assign, Comma, OptionalExpression, absent, present, Expressions, no_expression, an_expression, Items, no_item, an_item, Properties, no_property, a_property, SuffixTree, a_member, an_index, a_call, Suffixes, no_suffix, a_suffix, Operands, no_operand, an_operand, FunctionTree, a_function, StatementTree, Block, Empty, Evaluate, Debugger, Var, If, DoWhile, While, For, ForIn, Continue, Break, Return, Throw, Switch, Try, Declare, DeclareNumbered, OptionalStatement, omitted, given, Statements, no_statement, a_statement, Declarations, no_declared, a_declared, Branches, no_branch, a_branch, StartTree, no_start, start_var, start_value, TargetTree, target_value, target_declared, Clauses, no_clause, a_clause, CatchTree, no_catch, a_catch}
+use Rattle.js_tree.specs.Tree.{ExpressionTree, Number, Characters, Pattern, True, False, Null, This, Name, Array, Object, Function, Numbered, Suffixed, New, Update, Unary, Chain, Conditional, Assign, Comma, OptionalExpression, absent, present, Expressions, no_expression, an_expression, Items, no_item, an_item, Properties, no_property, a_property, SuffixTree, a_member, an_index, a_call, Suffixes, no_suffix, a_suffix, Operands, no_operand, an_operand, FunctionTree, a_function, StatementTree, Block, Empty, Evaluate, Debugger, Var, If, DoWhile, While, For, ForIn, Continue, Break, Return, Throw, Switch, Try, Declare, DeclareNumbered, OptionalStatement, omitted, given, Statements, no_statement, a_statement, Declarations, no_declared, a_declared, Branches, no_branch, a_branch, StartTree, no_start, start_var, start_value, TargetTree, target_value, target_declared, Clauses, no_clause, a_clause, CatchTree, no_catch, a_catch}
 use Rattle.js_binding.specs.Source.{unbound, expression_source, optional_source, expressions_source, items_source, properties_source, suffix_source, suffixes_source, operands_source, statement_source, otherwise_source, statements_source, declarations_source, branches_source, start_source, target_source, clauses_source, handler_source, function_source}
 use Rattle.js_binding.specs.Numbered.{expression_numbered, optional_numbered, expressions_numbered, items_numbered, properties_numbered, suffix_numbered, suffixes_numbered, operands_numbered, statement_numbered, otherwise_numbered, statements_numbered, declarations_numbered, branches_numbered, start_numbered, target_numbered, clauses_numbered, handler_numbered, function_numbered}
 use Rattle.js_law_binding.proofs.Keeps.{keeps_pure, keeps_then}
@@ -14,6 +14,7 @@ mutual
   pub expression_back : (e : ExpressionTree) → Back expression_source (expression_source none e) (expression_numbered e)
   expression_back (Number p n) = keeps_pure (Number p n) (λ at. refl)
   expression_back (Characters p text) = keeps_pure (Characters p text) (λ at. refl)
+  expression_back (Pattern p literal) = keeps_pure (Pattern p literal) (λ at. refl)
   expression_back (True p) = keeps_pure (True p) (λ at. refl)
   expression_back (False p) = keeps_pure (False p) (λ at. refl)
   expression_back (Null p) = keeps_pure (Null p) (λ at. refl)

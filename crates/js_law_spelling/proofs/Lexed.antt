@@ -13,11 +13,13 @@ use Rattle.utf16_text.specs.Digits.{is_digit}
 use Rattle.js_grammar.specs.Units.{first_passes, begins_with, is_word_start, is_word_part, place_after}
 use Rattle.js_grammar.specs.Signs.{sign_at}
 use Rattle.js_grammar.specs.Literals.{number_at, text_at}
-use Rattle.js_grammar.specs.Tokens.{Piece, divides, comment_length, comment_piece, sign_piece, slash_piece, word_piece, number_piece, text_piece, is_quote, piece_at, at_place, piece_tokens, line_ended, tokens_from, tokens_of}
+use Rattle.js_grammar.specs.Patterns.{pattern_at}
+use Rattle.js_grammar.specs.Tokens.{Piece, divides, comment_length, comment_piece, sign_piece, slash_piece, word_piece, number_piece, text_piece, is_quote, piece_at, at_place, piece_tokens, line_ended, pattern_piece, tokens_from, tokens_of}
 use Rattle.utf16_text.specs.Units.{is_unit}
 use Rattle.js_law_spelling.specs.Spellable.{is_spellable}
 use Rattle.js_law_spelling.specs.Laws.{TokensAreSpellable}
 use Rattle.js_law_spelling.proofs.Units.{both, both_second, run_passes}
+use Rattle.js_law_spelling.proofs.Patterns.{pattern_gives}
 use Rattle.js_law_spelling.proofs.Read.{Gives, step, chosen, number_gives, text_gives, drop_passes}
 
 -- ---- pieces
@@ -56,11 +58,15 @@ signs_give : (s : Option (Sign × ℕ)) → Gives IsSpellablePiece (sign_piece s
 signs_give None = tt
 signs_give (Some x) = refl
 
-slashes_give : (dividing : Bool) (us : List ℕ) → Gives IsSpellablePiece (slash_piece dividing us)
-slashes_give dividing us =
+patterns_give : (us : List ℕ) → list_all is_unit us ≡ true → begins_with 47 us ≡ false → begins_with 42 us ≡ false → Gives IsSpellablePiece (pattern_piece us)
+patterns_give us h slash star = step IsSpellablePiece (pattern_at us) _ (pattern_gives us h slash star) (λ x k. k)
+
+slashes_give : (dividing : Bool) (us : List ℕ) → list_all is_unit us ≡ true → Gives IsSpellablePiece (slash_piece dividing us)
+slashes_give dividing us h =
     chosen IsSpellablePiece (begins_with 47 (drop 1 us)) _ _ (λ _. refl)
-    (λ _. chosen IsSpellablePiece (begins_with 42 (drop 1 us)) _ _ (λ _. comments_give (comment_length (drop 2 us)))
-    (λ _. chosen IsSpellablePiece dividing _ _ (λ _. signs_give (sign_at us)) (λ _. tt)))
+    (λ slash. chosen IsSpellablePiece (begins_with 42 (drop 1 us)) _ _ (λ _. comments_give (comment_length (drop 2 us)))
+    (λ star. chosen IsSpellablePiece dividing _ _ (λ _. signs_give (sign_at us))
+    (λ _. patterns_give (drop 1 us) (drop_passes is_unit 1 us h) slash star)))
 
 pub piece_gives : (dividing : Bool) (us : List ℕ) → list_all is_unit us ≡ true → Gives IsSpellablePiece (piece_at dividing us)
 unfolding piece_at
@@ -71,7 +77,7 @@ piece_gives dividing (u ∷ us) h =
     (λ _. chosen IsSpellablePiece (is_digit u) _ _ (λ _. numbers_give (u ∷ us))
     (λ _. chosen IsSpellablePiece (nat_eq u 46 && first_passes is_digit us) _ _ (λ _. tt)
     (λ _. chosen IsSpellablePiece (is_quote u) _ _ (λ _. texts_give u us (both_second _ _ h))
-    (λ _. chosen IsSpellablePiece (nat_eq u 47) _ _ (λ _. slashes_give dividing (u ∷ us))
+    (λ _. chosen IsSpellablePiece (nat_eq u 47) _ _ (λ _. slashes_give dividing (u ∷ us) h)
     (λ _. signs_give (sign_at (u ∷ us))))))))
 
 -- ---- tokens

@@ -1,6 +1,7 @@
 pub mod Lexed
 pub mod Lines
 pub mod Numbers
+pub mod Patterns
 pub mod Pieces
 pub mod Read
 pub mod Rows

@@ -1,16 +1,17 @@
 -- A line of printed tokens is lexed as these tokens.
-use Rattle.std.proofs.Common.{◌≡◌, ◌⊎◌, inl, inr, ℕ, List, [], ◌∷◌, ◌++◌, Bool, true, false, refl, subst, sym, ap, append_assoc}
+use Rattle.std.proofs.Common.{◌≡◌, ◌⊎◌, inl, inr, ℕ, List, [], ◌∷◌, ◌++◌, Bool, true, false, not, refl, subst, sym, ap, append_assoc}
 use Rattle.std.specs.List.{All}
 use Rattle.std.proofs.lemmas.List.Elements.{All-head, All-tail}
 use Rattle.utf16_text.specs.Letters.{is_space_unit}
 use Rattle.js_tree.specs.declared.place.Place.{Place}
 use Rattle.js_tree.specs.declared.token.Token.{Token}
 use Rattle.js_tree.specs.declared.token.TokenKind.{TokenKind}
+use Rattle.js_tree.specs.declared.token.TokenKind.TheVariants as token
 use Rattle.js_grammar.specs.Printing.{nowhere}
 use Rattle.js_grammar.specs.Spelling.{spelling, line}
 use Rattle.js_grammar.specs.Tokens.{divides, dot_first}
 use Rattle.js_law_spelling.specs.Spellable.{is_spellable}
-use Rattle.js_law_spelling.specs.Laws.{needs_value, SpellingsAreRead}
+use Rattle.js_law_spelling.specs.Laws.{is_pattern, MayStand, SpellingsAreRead}
 use Rattle.js_law_spelling.specs.Lined.{behind_line}
 use Rattle.js_law_spelling.proofs.Standing.{Stand}
 use Rattle.js_law_spelling.proofs.Pieces.{Lexed, with_kind, NoSpaceFirst, token_first, spellable_lexed, gap_lexed}
@@ -40,16 +41,24 @@ is_gap : (gap : ℕ) → (gap ≡ 32) ⊎ (gap ≡ 10) → is_space_unit gap ≡
 is_gap gap (inl e) = rw e refl
 is_gap gap (inr e) = rw e refl
 
+-- each token may stand where a slash divides, or where none does
+may_stand : (k : TokenKind) → MayStand (not (is_pattern k)) k
+may_stand (token.Pattern l) = ((λ needs. cc), (λ is. refl))
+may_stand (token.Word w) = ((λ needs. refl), (λ is. cc))
+may_stand (token.Number n) = ((λ needs. refl), (λ is. cc))
+may_stand (token.Text x) = ((λ needs. refl), (λ is. cc))
+may_stand (token.Sign s) = ((λ needs. refl), (λ is. cc))
+
 module _ (read : SpellingsAreRead) where
   spelling_first : (k : TokenKind) (more : List ℕ) → is_spellable k ≡ true → NoSpaceFirst (spelling k ++ more)
-  spelling_first k more spellable = token_first true (spelling k) [] more k (read true k 32 [] spellable (λ needs. refl) (inl refl))
+  spelling_first k more spellable = token_first (not (is_pattern k)) (spelling k) [] more k (read (not (is_pattern k)) k 32 [] spellable (may_stand k) (inl refl))
 
   pub line_first : (ts : List Token) (more : List ℕ) → IsRow ts → All IsSpellable ts → NoSpaceFirst (line ts ++ more)
   line_first [] more is spellable = absurd is
   line_first (t ∷ []) more is spellable = rw (append_assoc (spelling t.kind) (10 ∷ []) more) (spelling_first t.kind (10 ∷ more) (All-head IsSpellable t [] spellable))
   line_first (t ∷ u ∷ ts) more is spellable = rw (append_assoc (spelling t.kind) (32 ∷ line (u ∷ ts)) more) (spelling_first t.kind (32 ∷ (line (u ∷ ts) ++ more)) (All-head IsSpellable t (u ∷ ts) spellable))
 
-  spelling_lexed : (k : TokenKind) (gap : ℕ) (rest : List ℕ) (after_line : Bool) (before wanted : List Token) → is_spellable k ≡ true → (needs_value k ≡ true → divides before ≡ true) → (gap ≡ 32) ⊎ (gap ≡ 10)
+  spelling_lexed : (k : TokenKind) (gap : ℕ) (rest : List ℕ) (after_line : Bool) (before wanted : List Token) → is_spellable k ≡ true → MayStand (divides before) k → (gap ≡ 32) ⊎ (gap ≡ 10)
       → ((place : Place) → Lexed false (with_kind k place after_line ∷ before) (gap ∷ rest) wanted)
       → Lexed after_line before (spelling k ++ gap ∷ rest) (with_kind k nowhere after_line ∷ wanted)
   spelling_lexed k gap rest after_line before wanted spellable needs is h =

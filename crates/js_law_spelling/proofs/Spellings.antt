@@ -15,6 +15,7 @@ use Rattle.js_law_spelling.proofs.Units.{both_first, both_second, is_shown, is_p
 use Rattle.js_law_spelling.proofs.Words.{word_spelling, word_reads}
 use Rattle.js_law_spelling.proofs.Numbers.{EndsNumber, number_reads, number_digits, number_begins}
 use Rattle.js_law_spelling.proofs.Texts.{text_reads, text_printed}
+use Rattle.js_law_spelling.proofs.Patterns.{pattern_reads, pattern_printed}
 use Rattle.js_law_spelling.proofs.Signs.{sign_at_space, sign_at_feed, sign_begins, sign_printed}
 
 -- ---- reading
@@ -39,8 +40,9 @@ each_is_read dividing (token.Word w) gap rest spellable value g =
 each_is_read dividing (token.Number (pos n)) gap rest spellable value g = number_reads dividing n gap rest spellable (ends_number gap g)
 each_is_read dividing (token.Number (negsuc n)) gap rest spellable value g = cc
 each_is_read dividing (token.Text x) gap rest spellable value g = text_reads dividing x gap rest spellable
+each_is_read dividing (token.Pattern l) gap rest spellable value g = pattern_reads dividing l gap rest spellable (value.1 refl) (ends_word gap g)
 each_is_read dividing (token.Sign s) gap rest spellable value g =
-    at_gap (λ u. piece_at dividing (sign_spelling s ++ u ∷ rest) ≡ Ok (Some (token.Sign s), length (sign_spelling s))) gap g (sign_at_space dividing s rest value) (sign_at_feed dividing s rest value)
+    at_gap (λ u. piece_at dividing (sign_spelling s ++ u ∷ rest) ≡ Ok (Some (token.Sign s), length (sign_spelling s))) gap g (sign_at_space dividing s rest value.0) (sign_at_feed dividing s rest value.0)
 
 -- ---- what a spelling is made of
 
@@ -56,6 +58,7 @@ spelling_begins (token.Word w) spellable =
 spelling_begins (token.Number (pos n)) spellable = shown_first is_digit (decimal n) digit_shown (number_begins n spellable)
 spelling_begins (token.Number (negsuc n)) spellable = cc
 spelling_begins (token.Text x) spellable = refl
+spelling_begins (token.Pattern l) spellable = refl
 spelling_begins (token.Sign s) spellable = sign_begins s
 
 -- each of its units is printed ASCII
@@ -66,6 +69,7 @@ spelling_printed (token.Word w) spellable =
 spelling_printed (token.Number (pos n)) spellable = all_weaker is_digit is_printed (λ u h. shown_printed u (digit_shown u h)) (decimal n) (number_digits n spellable)
 spelling_printed (token.Number (negsuc n)) spellable = cc
 spelling_printed (token.Text x) spellable = text_printed x spellable
+spelling_printed (token.Pattern l) spellable = pattern_printed l spellable
 spelling_printed (token.Sign s) spellable = sign_printed s
 
 -- it holds no line break

@@ -1,5 +1,6 @@
--- Rows of printed tokens in which each slash divides.
+-- Rows of printed tokens in which each slash divides that begins no pattern literal.
 use Rattle.std.proofs.Common.{◌≡◌, ℕ, List, [], ◌∷◌, ◌++◌, Bool, true, false, refl, subst, sym}
+use Rattle.js_pattern_reader.specs.Literal.{Literal}
 use Rattle.js_tree.specs.declared.token.Token.{Token}
 use Rattle.js_tree.specs.declared.token.TokenKind.{TokenKind}
 use Rattle.js_tree.specs.declared.token.TokenKind.TheVariants as token
@@ -7,13 +8,13 @@ use Rattle.js_tree.specs.declared.sign.Sign.{Sign as SignName}
 use Rattle.js_tree.specs.declared.sign.Sign.TheVariants as sign
 use Rattle.js_grammar.specs.Tokens.{is_closing_sign, is_dot, ends_value}
 use Rattle.js_grammar.specs.Printing.{printed, sign_token, word_token, comma_if, in_round, in_square, in_braces}
-use Rattle.js_law_spelling.specs.Laws.{needs_value}
+use Rattle.js_law_spelling.specs.Laws.{needs_value, is_pattern, MayStand}
 
--- Tokens that were printed, where each slash stands behind a value. dividing: a slash divides before them; dot: a dot
--- stands before them.
+-- Tokens that were printed, where each slash stands behind a value and each pattern literal behind none. dividing: a
+-- slash divides before them; dot: a dot stands before them.
 abbrev pub Stand : Bool → Bool → List Token → Type 0
 Stand dividing dot [] = Unit {0}
-Stand dividing dot (t ∷ ts) = (t ≡ printed t.kind) × (needs_value t.kind ≡ true → dividing ≡ true) × Stand (ends_value dot t.kind) (is_dot t.kind) ts
+Stand dividing dot (t ∷ ts) = (t ≡ printed t.kind) × MayStand dividing t.kind × Stand (ends_value dot t.kind) (is_dot t.kind) ts
 
 -- whatever stands before them
 pub record StandAnywhere (ts : List Token) : Type 0 where
@@ -37,17 +38,17 @@ pub record EndInValue (ts : List Token) : Type 0 where
 pub none_stand : StandAnywhere []
 none_stand = record { stand = λ dividing dot. tt }
 
-pub token_stands : {ts : List Token} (k : TokenKind) → needs_value k ≡ false → StandAnywhere ts → StandAnywhere (printed k ∷ ts)
-token_stands k free h = record { stand = λ dividing dot. (refl, (λ needs. cc), h.stand (ends_value dot k) (is_dot k)) }
+pub token_stands : {ts : List Token} (k : TokenKind) → needs_value k ≡ false → is_pattern k ≡ false → StandAnywhere ts → StandAnywhere (printed k ∷ ts)
+token_stands k free other h = record { stand = λ dividing dot. (refl, ((λ needs. cc), (λ is. cc)), h.stand (ends_value dot k) (is_dot k)) }
 
 pub sign_stands : {ts : List Token} (s : SignName) → needs_value (token.Sign s) ≡ false → StandAnywhere ts → StandAnywhere (sign_token s ∷ ts)
-sign_stands s free h = token_stands (token.Sign s) free h
+sign_stands s free h = token_stands (token.Sign s) free refl h
 
 pub word_stands : {ts : List Token} {w : List ℕ} → StandAnywhere ts → StandAnywhere (word_token w ∷ ts)
-word_stands {w = w} h = token_stands (token.Word w) refl h
+word_stands {w = w} h = token_stands (token.Word w) refl refl h
 
 pub text_stands : {ts : List Token} {x : List ℕ} → StandAnywhere ts → StandAnywhere (printed (token.Text x) ∷ ts)
-text_stands {x = x} h = token_stands (token.Text x) refl h
+text_stands {x = x} h = token_stands (token.Text x) refl refl h
 
 -- ---- rows behind rows
 
@@ -89,6 +90,10 @@ comma_stands false h = h
 pub comma_alone : (b : Bool) → StandAnywhere (comma_if b)
 comma_alone true = sign_stands sign.Comma refl none_stand
 comma_alone false = none_stand
+
+-- behind its bracket no slash divides
+pub pattern_stands : (l : Literal) → StandAnywhere (in_round (printed (token.Pattern l) ∷ []))
+pattern_stands l = record { stand = λ dividing dot. (refl, ((λ needs. cc), (λ is. cc)), (refl, ((λ needs. cc), (λ is. refl)), (refl, ((λ needs. cc), (λ is. cc)), tt))) }
 
 -- ---- values
 

@@ -1,17 +1,17 @@
--- In the printed tokens of a readable tree each slash divides.
+-- In the printed tokens of a readable tree each slash divides that begins no pattern literal.
 use Rattle.std.proofs.Common.{ℕ, List, [], ◌∷◌, ◌++◌, Some, None, Bool, true, false, refl}
 use Rattle.js_tree.specs.declared.token.Token.{Token}
 use Rattle.js_tree.specs.declared.token.TokenKind.TheVariants as token
 use Rattle.js_tree.specs.declared.sign.Sign.TheVariants as sign
 use Rattle.js_tree.specs.declared.bound.BoundName.{BoundName}
 use Rattle.js_tree.specs.declared.operators.UpdateForm.TheVariants.{Prefix, Postfix}
-use Rattle.js_tree.specs.Tree.{ExpressionTree, Number, Characters, True, False, Null, This, Name, Array, Object, Function, Numbered, Suffixed, New, Update, Unary, Chain, Conditional, Assign, Comma, OptionalExpression, absent, present, Expressions, no_expression, an_expression, Items, no_item, an_item, Properties, no_property, a_property, SuffixTree, a_member, an_index, a_call, Suffixes, no_suffix, a_suffix, Operands, no_operand, an_operand, FunctionTree, a_function, StatementTree, Block, Empty, Evaluate, Debugger, Var, If, DoWhile, While, For, ForIn, Continue, Break, Return, Throw, Switch, Try, Declare, DeclareNumbered, OptionalStatement, omitted, given, Statements, no_statement, a_statement, Declarations, no_declared, a_declared, Branches, no_branch, a_branch, StartTree, no_start, start_var, start_value, TargetTree, target_value, target_declared, Clauses, no_clause, a_clause, CatchTree, no_catch, a_catch}
+use Rattle.js_tree.specs.Tree.{ExpressionTree, Number, Characters, Pattern, True, False, Null, This, Name, Array, Object, Function, Numbered, Suffixed, New, Update, Unary, Chain, Conditional, Assign, Comma, OptionalExpression, absent, present, Expressions, no_expression, an_expression, Items, no_item, an_item, Properties, no_property, a_property, SuffixTree, a_member, an_index, a_call, Suffixes, no_suffix, a_suffix, Operands, no_operand, an_operand, FunctionTree, a_function, StatementTree, Block, Empty, Evaluate, Debugger, Var, If, DoWhile, While, For, ForIn, Continue, Break, Return, Throw, Switch, Try, Declare, DeclareNumbered, OptionalStatement, omitted, given, Statements, no_statement, a_statement, Declarations, no_declared, a_declared, Branches, no_branch, a_branch, StartTree, no_start, start_var, start_value, TargetTree, target_value, target_declared, Clauses, no_clause, a_clause, CatchTree, no_catch, a_catch}
 use Rattle.js_grammar.specs.declared.around.Around.{Around}
 use Rattle.js_grammar.specs.Expressions.{in_function}
 use Rattle.js_grammar.specs.Statements.{inside, in_loop, in_switch}
 use Rattle.js_grammar.specs.Printing.{else_if, more_names, more_expressions, more_items, more_properties, more_declared, more_branches, parameters_tokens, own_name_tokens, expression_tokens, optional_tokens, expressions_tokens, items_tokens, properties_tokens, suffix_tokens, suffixes_tokens, operands_tokens, function_tokens, statement_tokens, statements_tokens, otherwise_tokens, finally_tokens, first_value_tokens, declarations_tokens, branches_tokens, start_tokens, target_tokens, clauses_tokens, catch_tokens}
 use Rattle.js_law_readable.specs.Readable.{IsExpression, IsOptional, AreExpressions, AreItems, AreProperties, IsSuffix, AreSuffixes, AreOperands, IsFunction, IsStatement, AreStatements, IsOtherwise, IsFinally, AreDeclared, AreBranches, IsStart, IsTarget, AreClauses, IsCatch, is_given}
-use Rattle.js_law_spelling.proofs.Standing.{StandAnywhere, StandBehindValue, none_stand, token_stands, text_stands, sign_stands, word_stands, rows_stand, value_stands, round_stand, square_stand, braces_stand, semicolon_stands, comma_stands, comma_alone}
+use Rattle.js_law_spelling.proofs.Standing.{StandAnywhere, StandBehindValue, none_stand, token_stands, text_stands, sign_stands, word_stands, rows_stand, value_stands, round_stand, square_stand, braces_stand, semicolon_stands, comma_stands, comma_alone, pattern_stands}
 use Rattle.js_law_spelling.proofs.Values.{expression_value, unary_stands, update_stands, binary_stands, assign_stands}
 
 -- ---- names
@@ -33,8 +33,9 @@ mutual
   unfolding expression_tokens
 
   expression_stands : (e : ExpressionTree) → IsExpression e → StandAnywhere (expression_tokens e)
-  expression_stands (Number p n) is = token_stands (token.Number n) refl none_stand
+  expression_stands (Number p n) is = token_stands (token.Number n) refl refl none_stand
   expression_stands (Characters p x) is = text_stands none_stand
+  expression_stands (Pattern p l) is = pattern_stands l
   expression_stands (True p) is = word_stands none_stand
   expression_stands (False p) is = word_stands none_stand
   expression_stands (Null p) is = word_stands none_stand

@@ -16,7 +16,7 @@ use Rattle.js_law_spelling.proofs.Units.{both_first, both_second, is_printed, pr
 
 -- ---- hexadecimal digits
 
-digit_is : (n : ℕ) → n < 16 → is_hexadecimal (hexadecimal_digit_of n) ≡ true
+pub digit_is : (n : ℕ) → n < 16 → is_hexadecimal (hexadecimal_digit_of n) ≡ true
 digit_is n h = grind (arith, nat_tests)
 
 digit_back : (n : ℕ) → n < 16 → digit_of (hexadecimal_digit_of n) ≡ n
@@ -55,7 +55,7 @@ by_number_reads n u rest h =
     let read = numbered_reads (u / 4096) (u / 256 % 16) (u / 16 % 16) (u % 16) rest (omega arith) (omega arith) (omega arith) (omega arith) in
     rw (read, four_digits u h) refl
 
-below : (u : ℕ) → is_unit u ≡ true → u < 65536
+pub below : (u : ℕ) → is_unit u ≡ true → u < 65536
 below u h = grind (arith, nat_tests)
 
 unit_reads : (n u : ℕ) (rest : List ℕ) → is_unit u ≡ true → IsReadIn n u (escaped_unit true u) rest
@@ -120,7 +120,7 @@ text_reads dividing x gap rest h =
 digit_printed : (n : ℕ) → n < 16 → is_printed (hexadecimal_digit_of n) ≡ true
 digit_printed n h = grind (arith, nat_tests)
 
-number_printed : (u : ℕ) → u < 65536 → list_all is_printed (numbered_unit u) ≡ true
+pub number_printed : (u : ℕ) → u < 65536 → list_all is_printed (numbered_unit u) ≡ true
 number_printed u h =
     let first : is_printed (hexadecimal_digit_of (u / 4096)) ≡ true = digit_printed (u / 4096) (omega arith) in
     let second : is_printed (hexadecimal_digit_of (u / 256 % 16)) ≡ true = digit_printed (u / 256 % 16) (omega arith) in

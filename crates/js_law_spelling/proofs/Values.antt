@@ -12,12 +12,13 @@ use Rattle.js_tree.specs.declared.operators.BinaryOp.{BinaryOp}
 use Rattle.js_tree.specs.declared.operators.BinaryOp.TheVariants as binary
 use Rattle.js_tree.specs.declared.operators.AssignOp.{AssignOp}
 use Rattle.js_tree.specs.declared.operators.AssignOp.TheVariants as assign
-use Rattle.js_tree.specs.Tree.{ExpressionTree, Number, Characters, True, False, Null, This, Name, Array, Object, Function, Numbered, Suffixed, New, Update, Unary, Chain, Conditional, Assign, Comma}
+use Rattle.js_tree.specs.Tree.{ExpressionTree, Number, Characters, Pattern, True, False, Null, This, Name, Array, Object, Function, Numbered, Suffixed, New, Update, Unary, Chain, Conditional, Assign, Comma}
 use Rattle.js_tree.specs.declared.keyword.Keyword.TheVariants as word
 use Rattle.js_grammar.specs.Tokens.{is_value_word, ends_value, is_dot}
 use Rattle.js_grammar.specs.Words.{keyword_of, keyword_spelling}
 use Rattle.js_grammar.specs.Printing.{printed, sign_token, word_token, keyword_token, unary_token, update_token, binary_token, assign_token, in_round, in_braces, own_name_tokens, expression_tokens, expressions_tokens, items_tokens, properties_tokens, suffixes_tokens, operands_tokens, function_tokens}
 use Rattle.js_law_readable.specs.Readable.{IsExpression}
+use Rattle.js_law_spelling.specs.Laws.{is_pattern}
 use Rattle.js_law_spelling.proofs.Standing.{StandAnywhere, StandBehindValue, EndInValue, sign_stands, word_stands, round_value, square_value}
 
 -- ---- words
@@ -34,6 +35,7 @@ pub expression_value : (e : ExpressionTree) → IsExpression e → EndInValue (e
 unfolding expression_tokens
 expression_value (Number p n) is = record { ends = λ dividing dot. refl }
 expression_value (Characters p x) is = record { ends = λ dividing dot. refl }
+expression_value (Pattern p l) is = round_value (printed (token.Pattern l) ∷ [])
 expression_value (True p) is = word_value (keyword_spelling word.True) refl
 expression_value (False p) is = word_value (keyword_spelling word.False) refl
 expression_value (Null p) is = word_value (keyword_spelling word.Null) refl
@@ -76,12 +78,20 @@ assign_printed : (op : AssignOp) → assign_token op ≡ printed (assign_token o
 assign_printed assign.Set = refl
 assign_printed _ = refl
 
+binary_other : (op : BinaryOp) → is_pattern (binary_token op).kind ≡ false
+binary_other binary.InstanceOf = refl
+binary_other _ = refl
+
+assign_other : (op : AssignOp) → is_pattern (assign_token op).kind ≡ false
+assign_other assign.Set = refl
+assign_other _ = refl
+
 -- a slash among them is behind a value
-operator_stands : {ts : List Token} (t : Token) → t ≡ printed t.kind → StandAnywhere ts → StandBehindValue (t ∷ ts)
-operator_stands t e h = record { stand = λ dot. (e, (λ needs. refl), h.stand (ends_value dot t.kind) (is_dot t.kind)) }
+operator_stands : {ts : List Token} (t : Token) → t ≡ printed t.kind → is_pattern t.kind ≡ false → StandAnywhere ts → StandBehindValue (t ∷ ts)
+operator_stands t e other h = record { stand = λ dot. (e, ((λ needs. refl), (λ is. cc)), h.stand (ends_value dot t.kind) (is_dot t.kind)) }
 
 pub binary_stands : {ts : List Token} (op : BinaryOp) → StandAnywhere ts → StandBehindValue (binary_token op ∷ ts)
-binary_stands op h = operator_stands (binary_token op) (binary_printed op) h
+binary_stands op h = operator_stands (binary_token op) (binary_printed op) (binary_other op) h
 
 pub assign_stands : {ts : List Token} (op : AssignOp) → StandAnywhere ts → StandBehindValue (assign_token op ∷ ts)
-assign_stands op h = operator_stands (assign_token op) (assign_printed op) h
+assign_stands op h = operator_stands (assign_token op) (assign_printed op) (assign_other op) h

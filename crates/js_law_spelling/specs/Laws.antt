@@ -23,11 +23,19 @@ needs_value (token.Sign sign.Slash) = true
 needs_value (token.Sign sign.SlashAssign) = true
 needs_value _ = false
 
+abbrev pub is_pattern : TokenKind → Bool
+is_pattern (token.Pattern l) = true
+is_pattern _ = false
+
+-- and a pattern literal only where none does
+abbrev pub MayStand : Bool → TokenKind → Type 0
+MayStand divides k = (needs_value k ≡ true → divides ≡ true) × (is_pattern k ≡ true → divides ≡ false)
+
 -- the spelling of a token, a space (32) or a line feed (10) behind it, is read as that token
 abbrev pub SpellingsAreRead : Type 0
 SpellingsAreRead =
     (divides : Bool) (k : TokenKind) (gap : ℕ) (rest : List ℕ)
-    → is_spellable k ≡ true → (needs_value k ≡ true → divides ≡ true) → (gap ≡ 32) ⊎ (gap ≡ 10)
+    → is_spellable k ≡ true → MayStand divides k → (gap ≡ 32) ⊎ (gap ≡ 10)
     → piece_at divides (spelling k ++ gap ∷ rest) ≡ Ok (Some k, length (spelling k))
 
 -- each token of a text of 16-bit units can be spelt

@@ -19,6 +19,7 @@ name_placeless : (k : TokenKind) (x : List ℕ) → name_in k ≡ Some x → bar
 name_placeless (token.Word w) x h = let e : w ≡ x = cc in ap (λ y. a_text y ∷ []) e
 name_placeless (token.Text w) x h = let e : w ≡ x = cc in ap (λ y. a_text y ∷ []) e
 name_placeless (token.Number n) x h = let e : signed_decimal n ≡ x = cc in ap (λ y. a_text y ∷ []) e
+name_placeless (token.Pattern l) x h = cc
 name_placeless (token.Sign s) x h = cc
 
 keeps_bare : {out before rest : List Token} → Keeps out before rest → bare_tokens before ≡ bare_tokens out ++ bare_tokens rest

@@ -52,6 +52,7 @@ expression_kept : {a : List Token} {x : ExpressionTree} {b : List Token} → Exp
 unfolding expression_tokens
 expression_kept (derived.number h) = taken _ _ _ h
 expression_kept (derived.characters h) = taken _ _ _ h
+expression_kept (derived.pattern h) = round (taken _ _ _ h)
 expression_kept (derived.name h free) = taken _ _ _ h
 expression_kept (derived.this h) = said h
 expression_kept (derived.null h) = said h

@@ -53,6 +53,7 @@ unary_is : (k : TokenKind) (op : UnaryOp) → unary_in k ≡ Some op → printed
 unary_is (token.Sign s) op h = unary_sign_is s op h
 unary_is (token.Word w) op h = unary_word_is w (keyword_of w) op refl h
 unary_is (token.Text x) op h = cc
+unary_is (token.Pattern l) op h = cc
 unary_is (token.Number n) op h = cc
 
 pub unary_taken : (ts : List Token) (op : UnaryOp) → next_unary ts ≡ Some op → Keeps (unary_token op ∷ []) ts (rest_of ts)
@@ -115,6 +116,7 @@ binary_is : (form : Form) (k : TokenKind) (op : BinaryOp) → binary_in form k �
 binary_is form (token.Sign s) op h = binary_sign_is s op h
 binary_is form (token.Word w) op h = binary_word_is form w (keyword_of w) op refl h
 binary_is form (token.Text x) op h = cc
+binary_is form (token.Pattern l) op h = cc
 binary_is form (token.Number n) op h = cc
 
 binary_taken : (form : Form) (ts : List Token) (op : BinaryOp) → next_binary form ts ≡ Some op → Keeps (binary_token op ∷ []) ts (rest_of ts)
@@ -153,6 +155,7 @@ assign_is : (k : TokenKind) (op : AssignOp) → assign_in k ≡ Some op → prin
 assign_is (token.Sign s) op h = assign_sign_is s op h
 assign_is (token.Word w) op h = cc
 assign_is (token.Text x) op h = cc
+assign_is (token.Pattern l) op h = cc
 assign_is (token.Number n) op h = cc
 
 pub assign_taken : (ts : List Token) (op : AssignOp) → next_assign ts ≡ Some op → Keeps (assign_token op ∷ []) ts (rest_of ts)

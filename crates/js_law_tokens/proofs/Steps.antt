@@ -45,12 +45,14 @@ sign_kind : (k : TokenKind) (s : Sign) → sign_of k ≡ Some s → k ≡ token.
 sign_kind (token.Sign x) s h = cc
 sign_kind (token.Word x) s h = cc
 sign_kind (token.Text x) s h = cc
+sign_kind (token.Pattern l) s h = cc
 sign_kind (token.Number x) s h = cc
 
 keyword_kind : (k : TokenKind) (w : Keyword) → keyword_in k ≡ Some w → k ≡ token.Word (keyword_spelling w)
 keyword_kind (token.Sign x) w h = cc
 keyword_kind (token.Word x) w h = ap token.Word (keyword_spelled x w h)
 keyword_kind (token.Text x) w h = cc
+keyword_kind (token.Pattern l) w h = cc
 keyword_kind (token.Number x) w h = cc
 
 -- a token of this kind is read, and printed again

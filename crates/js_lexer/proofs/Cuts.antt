@@ -1,22 +1,25 @@
 -- No piece ends between a CR and its LF, so behind a piece the place goes on as it would without the cut.
-use Rattle.std.proofs.Common.{◌≡◌, ℕ, zero, suc, ◌+◌, ◌<◌, pos, List, [], ◌∷◌, length, take, drop, Bool, true, false, ◌&&◌, ◌||◌, not, Option, Some, None, Result, Ok, Err, refl, sym, ap, ◌∙◌, arith, if◌then◌else◌}
+use Rattle.std.proofs.Common.{◌≡◌, ℕ, zero, suc, ◌+◌, ◌<◌, pos, List, [], ◌∷◌, length, take, drop, Bool, true, false, ◌&&◌, ◌||◌, not, Option, Some, None, Result, Ok, Err, refl, sym, ap, subst, ◌∙◌, arith, if◌then◌else◌}
 use Rattle.std.specs.Prelude.{find, nat_eq, nat_lt, option_to_list}
 use Rattle.std.specs.List.{prefix_len, starts_with, list_all, list_any}
 use Rattle.std.specs.Option.{option_map}
 use Rattle.std.proofs.Math.Bool.{and-false}
 use Rattle.std.proofs.lemmas.Bool.{and_parts, eqb-true, not-true, or_parts}
+use Rattle.std.proofs.lemmas.List.Folds.{length-prefix_len}
 use Rattle.utf16_text.specs.Letters.{is_break_unit, is_space_unit}
 use Rattle.utf16_text.specs.Digits.{is_digit, is_hexadecimal, value_of}
+use Rattle.js_pattern_reader.specs.Literal.{Literal}
 use Rattle.js_tree.specs.declared.place.Place.{Place}
 use Rattle.js_tree.specs.declared.sign.Sign.{Sign as SignName}
-use Rattle.js_tree.specs.declared.token.TokenKind.TheVariants.{Sign, Number, Text}
+use Rattle.js_tree.specs.declared.token.TokenKind.TheVariants.{Sign, Number, Text, Pattern}
 use Rattle.js_tree.specs.declared.refusal.ReadKind.{ReadKind}
 use Rattle.js_tree.specs.declared.refusal.ReadKind.TheVariants.{BadToken, FractionLiteral, Unsupported}
 use Rattle.js_grammar.specs.Reading.{◌>>=◌}
 use Rattle.js_grammar.specs.Units.{begins_with, first_passes, is_word_part, is_word_start, place_after}
 use Rattle.js_grammar.specs.Literals.{character_at, decimal_at, hexadecimal_at, in_front, is_fraction_mark, is_hexadecimal_literal, literal, number_at, text_at, text_from}
+use Rattle.js_grammar.specs.Patterns.{body_length, body_length_from, class_behind, ends_body, escapes, flags_at, kept, literal_of, pattern_at}
 use Rattle.js_grammar.specs.Signs.{sign_spelling, signs}
-use Rattle.js_grammar.specs.Tokens.{comment_length, comment_piece, is_inline, is_quote, piece_at, sign_piece, slash_piece, text_piece, word_piece}
+use Rattle.js_grammar.specs.Tokens.{comment_length, comment_piece, is_inline, is_quote, pattern_piece, piece_at, sign_piece, slash_piece, text_piece, word_piece}
 use Rattle.js_lexer.proofs.Runs.{failing_unit, other_unit, run_ends, run_more}
 
 -- whether CR LF (13, 10) stands across the place behind so many units
@@ -250,6 +253,66 @@ quoted u us quote = by_text (text_at u us) refl
         let one : x.1 + 1 ≡ suc x.1 = omega arith in
         gives (Some (Text x.0)) (x.1 + 1) (suc x.1) (u ∷ us) one (later x.1 u us ih.0 ∙ ih.1)
 
+-- ---- pattern literals
+
+-- a body ends before a slash
+slash_behind : (escaped within : Bool) (us : List ℕ) (n : ℕ) → body_length_from escaped within us ≡ Some n → drop n us ≡ 47 ∷ drop (suc n) us
+slash_behind escaped within [] n e = cc
+slash_behind escaped within (u ∷ us) n e =
+    by_unit (is_break_unit u) refl (ends_body escaped within u) refl (body_length_from next_escaped next_within us) refl (slash_behind next_escaped next_within us)
+  where
+    next_escaped : Bool
+    next_escaped = escapes escaped u
+
+    next_within : Bool
+    next_within = class_behind escaped within u
+
+    Goal : ℕ → Type 0
+    Goal m = drop m (u ∷ us) ≡ 47 ∷ drop m us
+
+    by_unit : (b : Bool) → is_break_unit u ≡ b → (c : Bool) → ends_body escaped within u ≡ c → (o : Option ℕ) → body_length_from next_escaped next_within us ≡ o
+        → ((m : ℕ) → body_length_from next_escaped next_within us ≡ Some m → drop m us ≡ 47 ∷ drop (suc m) us) → Goal n
+    by_unit true broken c ends o is on = let r : None ≡ Some n = sym (rw broken refl) ∙ e in cc
+    by_unit false broken true ends o is on =
+        let none : 0 ≡ n = let r : Some 0 ≡ Some n = sym (rw (broken, ends) refl) ∙ e in cc in
+        subst Goal none (ap (λ w. w ∷ us) (eqb-true u 47 (and_parts _ _ ends).0))
+    by_unit false broken false ends None is on = let r : None ≡ Some n = sym (rw (broken, ends, is) refl) ∙ e in cc
+    by_unit false broken false ends (Some m) is on =
+        let more : m + 1 ≡ n = let r : Some (m + 1) ≡ Some n = sym (rw (broken, ends, is) refl) ∙ e in cc in
+        let one : suc m ≡ n = omega arith in
+        subst Goal one (on m is)
+
+pattern_ends : (us : List ℕ) (x : Literal × ℕ) → pattern_at us ≡ Ok x → (0 < x.1) × (splits x.1 us ≡ false)
+unfolding pattern_at
+pattern_ends us x e = by_length (body_length us) refl
+  where
+    by_literal : (n : ℕ) → body_length us ≡ Some n → (r : Result Literal ReadKind) → literal_of (kept (take n us)) (flags_at (drop (n + 1) us)) ≡ r → (0 < x.1) × (splits x.1 us ≡ false)
+    by_literal n is (Err kind) read = let r : Err kind ≡ Ok x = sym (rw (is, read) refl) ∙ e in cc
+    by_literal n is (Ok l) read =
+        let flags = drop (n + 1) us in
+        let m = prefix_len is_word_part flags in
+        let count : n + 1 + length (flags_at flags) ≡ x.1 = let r : Ok (l, n + 1 + length (flags_at flags)) ≡ Ok x = sym (rw (is, read) refl) ∙ e in cc in
+        let flags_length : length (flags_at flags) ≡ m = length-prefix_len is_word_part flags in
+        let whole : n + suc m ≡ x.1 = omega (arith, count, flags_length) in
+        let slash : drop n us ≡ 47 ∷ drop (suc n) us = slash_behind false false us n is in
+        let one : suc n ≡ n + 1 = omega arith in
+        let there : drop n us ≡ 47 ∷ flags = slash ∙ ap (λ k. 47 ∷ drop k us) one in
+        (omega (arith, whole), ap (λ k. splits k us) (sym whole) ∙ behind n (suc m) us (omega arith) ∙ ap (λ vs. splits (suc m) vs) there ∙ run_takes_no_cr is_word_part refl 47 flags refl)
+
+    by_length : (o : Option ℕ) → body_length us ≡ o → (0 < x.1) × (splits x.1 us ≡ false)
+    by_length None is = let r : Err BadToken ≡ Ok x = sym (rw is refl) ∙ e in cc
+    by_length (Some n) is = by_literal n is (literal_of (kept (take n us)) (flags_at (drop (n + 1) us))) refl
+
+slashed : (u : ℕ) (us : List ℕ) → Ends (pattern_piece us) (u ∷ us)
+slashed u us = by_pattern (pattern_at us) refl
+  where
+    by_pattern : (r : Result (Literal × ℕ) ReadKind) → pattern_at us ≡ r → Ends (r >>= (λ x. Ok (Some (Pattern x.0), x.1 + 1))) (u ∷ us)
+    by_pattern (Err kind) is = refuses kind (u ∷ us)
+    by_pattern (Ok x) is =
+        let ih = pattern_ends us x is in
+        let one : x.1 + 1 ≡ suc x.1 = omega arith in
+        gives (Some (Pattern x.0)) (x.1 + 1) (suc x.1) (u ∷ us) one (later x.1 u us ih.0 ∙ ih.1)
+
 -- ---- any piece
 
 slash_ends : (dividing : Bool) (u : ℕ) (us : List ℕ) → nat_eq u 47 ≡ true → Ends (slash_piece dividing (u ∷ us)) (u ∷ us)
@@ -258,7 +321,7 @@ slash_ends dividing u us slash =
     chosen (begins_with 47 us) _ _ (u ∷ us)
     (λ line. gives None (prefix_len is_inline us + 1) (suc (prefix_len is_inline us)) (u ∷ us) one (run_takes_no_cr is_inline refl u us (other_unit (λ w. nat_eq w 47) u 13 refl slash)))
     (λ line. chosen (begins_with 42 us) _ _ (u ∷ us) (begun us) (λ block.
-    chosen dividing _ _ (u ∷ us) (λ d. sign_ends (u ∷ us) _ refl) (λ d. refuses Unsupported (u ∷ us))))
+    chosen dividing _ _ (u ∷ us) (λ d. sign_ends (u ∷ us) _ refl) (λ d. slashed u us)))
   where
     begun : (vs : List ℕ) → begins_with 42 vs ≡ true → Ends (comment_piece (comment_length (drop 1 vs))) (u ∷ vs)
     begun [] block = cc

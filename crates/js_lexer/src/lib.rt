@@ -6,6 +6,7 @@
 
 mod lexer;
 mod numbers;
+mod patterns;
 mod pieces;
 mod recent;
 mod signs;
@@ -15,4 +16,5 @@ mod units;
 mod words;
 
 pub use lexer::{Lexed, lex};
+pub use patterns::{is_plain, numbered_unit};
 pub use words::{is_spelled, keyword_of, keyword_spelling};

@@ -7,6 +7,7 @@ ghost use Rattle.js_grammar.specs.Signs as signs;
 ghost use Rattle.js_grammar.specs.Tokens as spec;
 
 use crate::numbers::number_at;
+use crate::patterns::pattern_at;
 use crate::recent::RecentWords;
 use crate::signs::sign_at;
 use crate::slashes::divides;
@@ -58,8 +59,22 @@ fn sign_piece(place: Place, units: &[u16]) -> Result<Piece, ReadAnswer>
     }
 }
 
-/// At a slash, behind the tokens before it: a comment, or a sign where it divides.
-fn slash_piece(place: Place, before: &[Token], units: &[u16]) -> Result<Piece, ReadAnswer>
+/// A pattern literal, behind its first slash.
+fn pattern_piece(alloc: Global, place: Place, rest: &[u16]) -> Result<Piece, ReadAnswer>
+    ensures gives { Gives (λ x. x) result (spec.at_place place (spec.pattern_piece rest.now)) }
+    ensures within { IfOk result (λ x. (0 < x.1) × (x.1 ≤ length rest.now + 1)) }
+{
+    let (literal, count) = pattern_at(alloc, place, rest)?;
+    Ok((Some(TokenKind::Pattern(literal)), count + 1))
+}
+
+/// At a slash, behind the tokens before it: a comment, a sign where it divides, or a pattern literal.
+fn slash_piece(
+    alloc: Global,
+    place: Place,
+    before: &[Token],
+    units: &[u16],
+) -> Result<Piece, ReadAnswer>
     requires { 0 < length units.now }
     ensures gives { Gives (λ x. x) result (spec.at_place place (spec.slash_piece (spec.divides (reverse before.now)) units.now)) }
     ensures within { IfOk result (λ x. (0 < x.1) × (x.1 ≤ length units.now)) }
@@ -77,7 +92,7 @@ fn slash_piece(place: Place, before: &[Token], units: &[u16]) -> Result<Piece, R
     if divides(before) {
         sign_piece(place, units)
     } else {
-        Err(ReadAnswer::Refused(ReadKind::Unsupported, place))
+        pattern_piece(alloc, place, rest)
     }
 }
 
@@ -143,7 +158,7 @@ pub fn piece_at(
         return text_piece(alloc, place, unit, rest);
     }
     if unit == SLASH {
-        return slash_piece(place, before, units);
+        return slash_piece(alloc, place, before, units);
     }
     sign_piece(place, units)
 }

@@ -50,11 +50,12 @@ fn ends_value(after_dot: bool, kind: &TokenKind) -> bool
         TokenKind::Word(word) => after_dot || is_value_word(keyword_of(word.units())),
         TokenKind::Number(_) => true,
         TokenKind::Text(_) => true,
+        TokenKind::Pattern(_) => false,
         TokenKind::Sign(sign) => is_closing_sign(*sign),
     }
 }
 
-/// Whether a slash behind these tokens divides; elsewhere it would begin a regular expression.
+/// Whether a slash behind these tokens divides; elsewhere it begins a pattern literal.
 pub fn divides(tokens: &[Token]) -> bool
     ensures { result ≡ spec.divides (reverse tokens.now) }
 {

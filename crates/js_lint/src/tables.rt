@@ -156,8 +156,6 @@ pub(crate) const MEMBERS: &[NameRow] = &[
     ("reduceRight", Missing(Loop)),
 
     // On texts and numbers (15.5.4, 15.7.4).
-    ("match", Missing(Matching)),
-    ("search", Missing(Matching)),
     ("localeCompare", Missing(PlainLetters)),
     ("toLocaleLowerCase", Missing(PlainLetters)),
     ("toLocaleUpperCase", Missing(PlainLetters)),
@@ -165,7 +163,7 @@ pub(crate) const MEMBERS: &[NameRow] = &[
     ("toExponential", Missing(NumberText)),
     ("toPrecision", Missing(NumberText)),
 
-    // On dates and regular expressions (15.9.5, 15.10.6).
+    // On dates (15.9.5).
     ("getDay", Missing(Clock)),
     ("getDate", Missing(Clock)),
     ("getMonth", Missing(Clock)),
@@ -190,8 +188,6 @@ pub(crate) const MEMBERS: &[NameRow] = &[
     ("toGMTString", Missing(Clock)),
     ("toDateString", Missing(Clock)),
     ("toTimeString", Missing(Clock)),
-    ("test", Missing(Matching)),
-    ("exec", Missing(Matching)),
 
     // What later editions add to objects (edition 15, B.2.2).
     ("__proto__", Missing(PlainProperty)),

@@ -12,7 +12,7 @@ pub(crate) type AdviceRow = (Advice, &'static str);
 pub(crate) const WORDS: &[AdviceRow] = &[
     (Advice::Undeclared, "nothing of this name is declared or built in"),
     (Advice::Clock, "there are no dates; weekdayRange, dateRange and timeRange ask the clock"),
-    (Advice::Matching, "there are no regular expressions; write shExpMatch, dnsDomainIs or indexOf"),
+    (Advice::Matching, "a regular expression stands between slashes, as /^www[.]/; test, exec, match and replace take it"),
     (Advice::WholeNumbers, "numbers are whole, up to 2^53 - 1; parseInt and isNaN are there"),
     (Advice::Arithmetic, "Math has abs, ceil, floor, max, min and round; numbers are whole"),
     (Advice::Chance, "there is no chance; choose by the host, as by host.charCodeAt(0) % 2"),

@@ -6,10 +6,10 @@ use Rattle.heap_values.specs.declared.ids.ObjectId.{ObjectId}
 use Rattle.heap_values.specs.declared.value.Value.{Value}
 use Rattle.heap_values.specs.declared.value.Value.TheVariants as value
 use Rattle.heap_values.specs.Views.{HeapView}
-use Rattle.run_trees.specs.Runs.{pure, ◌>>=◌}
+use Rattle.run_trees.specs.Runs.{onward, pure, ◌>>=◌}
 use Rattle.js_evaluation.specs.declared.native.Conversion.{Conversion}
 use Rattle.js_evaluation.specs.declared.native.Native.{Native}
-use Rattle.js_evaluation.specs.State.{Does}
+use Rattle.js_evaluation.specs.State.{RunState, Does, AfterValue}
 use Rattle.js_evaluation.specs.Handed.{argument}
 use Rattle.js_evaluation.specs.Conversions.{Call, to_primitive, primitive_by}
 use Rattle.js_evaluation.specs.Natives as natives
@@ -20,19 +20,20 @@ use Rattle.js_evaluation.specs.Parts.{calls}
 use Rattle.heap_steps.specs.declared.halt.Halt.{Halt}
 use Rattle.js_machine.specs.declared.machine.Machine.{Machine}
 use Rattle.js_machine.specs.declared.now.Now.{Now}
-use Rattle.js_machine.specs.Moves.{Leads, Moves, at, inner}
+use Rattle.js_machine.specs.Moves.{Leads, Moves, at, inner, run_state}
 use Rattle.js_machine.proofs.Steps.{with_heap, works_then, works_stops}
 use Rattle.js_native_calls.specs.declared.readying.Readied.TheVariants as readied
 use Rattle.js_native_calls.specs.Calls.{converted, converted_from, native_done}
 use Rattle.js_native_calls.specs.Readying.{Readies}
 use Rattle.js_native_calls.proofs.Grouping.{first_then, grouped}
+use Rattle.js_native_calls.proofs.Steps.{moves_as}
 
 -- an object that isn't kept is asked by its methods
-asked : (call : Call) (c : Conversion) (v : Value) (place : Place) (id : ObjectId) → v ≡ value.Object id → is_kept c v ≡ false
-    → primitive_or_kept call c v place ≡ (primitive_by call (methods_for c) id place >>= (λ p. settled c p place))
-asked call c v place id e kept =
-    ap (λ (b : Bool). if b then pure v else to_primitive call (methods_for c) v place >>= (λ p. settled c p place)) kept
-    ∙ ap (λ w. to_primitive call (methods_for c) w place >>= (λ p. settled c p place)) e
+asked : (call : Call) (c : Conversion) (v : Value) (place : Place) (id : ObjectId) (s : RunState) → v ≡ value.Object id → is_kept s.heap c v ≡ false
+    → (after : AfterValue) → primitive_or_kept call c v place after s ≡ (primitive_by call (methods_for c) id place >>= (λ p. settled c p place)) after s
+asked call c v place id s e kept after =
+    ap (λ (b : Bool). (if b then pure v else to_primitive call (methods_for c) v place >>= (λ p. settled c p place)) after s) kept
+    ∙ ap (λ w. (to_primitive call (methods_for c) w place >>= (λ p. settled c p place)) after s) e
 
 module _ (m : Machine) (n : Native) (done handed : List Value) (place : Place) (left : ℕ) (r : Result Now Halt) where
   -- none is left
@@ -71,4 +72,6 @@ module _ (m : Machine) (n : Native) (done handed : List Value) (place : Place) (
     next_asked m' id t k =
         let by_methods = grouped (primitive_by (calls (inner m)) (methods_for c) id place) (λ p. settled c p place) behind (with_heap m h) r m' k in
         next_of m' (first_then (tested n c v place) (λ _. primitive_or_kept (calls (inner m)) c v place) behind m r m' h tt t.2
-        (subst (λ (p : Does Value). Moves (p >>= behind) (with_heap m h) r m') (sym (asked (calls (inner m)) c v place id t.0 t.1)) by_methods))
+        (moves_as (primitive_or_kept (calls (inner m)) c v place >>= behind) (with_heap m h)
+        (primitive_by (calls (inner m)) (methods_for c) id place >>= (λ p. settled c p place) >>= behind) r m'
+        (λ after. asked (calls (inner m)) c v place id (run_state (with_heap m h).state) t.0 t.1 (onward behind after)) by_methods))

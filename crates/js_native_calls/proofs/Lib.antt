@@ -1,3 +1,4 @@
+pub mod Begins
 pub mod Elements
 pub mod ErrorNames
 pub mod Grouping

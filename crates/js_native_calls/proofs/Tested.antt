@@ -1,5 +1,5 @@
 -- Values that are handed to a native are made ready.
-use Rattle.std.proofs.Common.{◌≡◌, Ok, Err, Result, false, ap, sym, subst, ◌∙◌, if◌then◌else◌, Bool}
+use Rattle.std.proofs.Common.{◌≡◌, Ok, Err, Result, true, false, ap, sym, subst, ◌∙◌, if◌then◌else◌, Bool}
 use Rattle.std.specs.Result.{IsErrAnd}
 use Rattle.js_tree.specs.declared.place.Place.{Place}
 use Rattle.heap_values.specs.declared.ids.ObjectId.{ObjectId}
@@ -13,22 +13,29 @@ use Rattle.js_evaluation.specs.State.{Does}
 use Rattle.js_evaluation.specs.Conversions.{Call, to_primitive}
 use Rattle.js_evaluation.specs.Natives.{tested, is_kept, methods_for, settled, primitive_or_kept}
 use Rattle.heap_steps.specs.declared.halt.Halt.{Halt}
-use Rattle.heap_steps.specs.Works.{Works}
-use Rattle.heap_steps.proofs.Chains.{chained, stops}
+use Rattle.heap_steps.specs.Works.{Works, state_with}
+use Rattle.heap_steps.proofs.Chains.{as_part, chained, stops}
 use Rattle.js_native_calls.specs.declared.readying.Readied.{Readied}
 use Rattle.js_native_calls.specs.declared.readying.Readied.TheVariants as readied
 use Rattle.js_native_calls.specs.Readying.{Becomes, Readies}
 use Rattle.js_native_calls.proofs.Objects.{is_primitive}
 
--- a value that is neither kept nor an object is settled at once
-module _ (call : Call) (c : Conversion) (v : Value) (place : Place) (kept : is_kept c v ≡ false) (n : (id : ObjectId) → v ≡ value.Object id → ⊥) (h : HeapView) where
-  settles : primitive_or_kept call c v place ≡ settled c v place
-  settles =
-      ap (λ (b : Bool). if b then pure v else to_primitive call (methods_for c) v place >>= (λ p. settled c p place)) kept
-      ∙ ap (λ (p : Does Value). p >>= (λ w. settled c w place)) (is_primitive call (methods_for c) v place n)
+-- at a heap where it is known whether a value is kept
+module _ (call : Call) (c : Conversion) (v : Value) (place : Place) (h : HeapView) where
+  -- by whether it is
+  abbrev by_keeping : Bool → Does Value
+  by_keeping b = if b then pure v else to_primitive call (methods_for c) v place >>= (λ p. settled c p place)
 
+  pub kept_as : is_kept h c v ≡ true → Works (primitive_or_kept call c v place) h (Ok v) h
+  kept_as kept = record { is = λ after fuel beside. ap (λ b. by_keeping b after (state_with h fuel beside)) kept }
+
+-- a value that is neither kept nor an object is settled at once
+module _ (call : Call) (c : Conversion) (v : Value) (place : Place) (h : HeapView) (kept : is_kept h c v ≡ false) (n : (id : ObjectId) → v ≡ value.Object id → ⊥) where
   pub settled_as : (r : Result Value Halt) → Works (settled c v place) h r h → Works (primitive_or_kept call c v place) h r h
-  settled_as r w = subst (λ (p : Does Value). Works p h r h) (sym settles) w
+  settled_as r w = as_part r
+      (λ after fuel beside. ap (λ b. by_keeping call c v place h b after (state_with h fuel beside)) kept
+      ∙ ap (λ (p : Does Value). (p >>= (λ w. settled c w place)) after (state_with h fuel beside)) (is_primitive call (methods_for c) v place n))
+      w
 
   pub settled_stops : (r : Result Readied Halt) (e : Halt) → IsErrAnd r (λ x. x ≡ e) → Works (settled c v place) h (Err e) h → Becomes call c v place h r
   settled_stops (Ok x) e i w = absurd i

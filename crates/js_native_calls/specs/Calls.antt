@@ -1,5 +1,5 @@
 -- Calls of built-in functions, as the machine has them (ECMA-262 5.1, sections 8.12.8 and 15).
-use Rattle.std.specs.Prelude.{ℕ, List, [], codes}
+use Rattle.std.specs.Prelude.{ℕ, List, [], Some, codes}
 use Rattle.js_tree.specs.declared.place.Place.{Place}
 use Rattle.js_tree.specs.Tree.{FunctionTree}
 use Rattle.heap_values.specs.declared.ids.ObjectId.{ObjectId}
@@ -10,6 +10,9 @@ use Rattle.array_builtins.specs.declared.joining.JoinAnswer.TheVariants as answe
 use Rattle.js_convert.specs.Texts.{text_of}
 use Rattle.js_evaluation.specs.declared.fault.FaultCode.TheVariants as code
 use Rattle.js_evaluation.specs.declared.native.Native.{Native}
+use Rattle.js_evaluation.specs.declared.native.PatternNative.{PatternNative}
+use Rattle.js_evaluation.specs.Patterns.{read_by, pattern_work}
+use Rattle.run_trees.specs.Runs.{reading, ◌>>=◌}
 use Rattle.js_evaluation.specs.State.{Does}
 use Rattle.js_evaluation.specs.Objects.{Context}
 use Rattle.js_evaluation.specs.Conversions as convert
@@ -54,6 +57,16 @@ module _ (functions : List FunctionTree) (go : Within) (cx : Context) where
 
   abbrev pub native_done : Native → List Value → List Value → Place → Does Value
   native_done = natives.native_done (calls go)
+
+  abbrev pub pattern_done : PatternNative → List Value → ℕ → Place → Does Value
+  pattern_done = natives.pattern_done (calls go)
+
+  -- where a search begins is read, where that counts, and then the method works
+  abbrev pub searched : PatternNative → List Value → Place → Does Value
+  searched n vs place = reading (λ s. natives.begin_of (calls go) (read_by n s.heap vs) place >>= (λ begin. pattern_work n vs begin place))
+
+  abbrev pub begun : PatternNative → List Value → ObjectId → Place → Does Value
+  begun n vs pattern place = natives.begin_of (calls go) (Some pattern) place >>= (λ begin. pattern_work n vs begin place)
 
   abbrev pub error_text : Value → Place → Does Value
   error_text = natives.error_text (calls go)

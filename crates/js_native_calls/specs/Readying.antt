@@ -17,12 +17,12 @@ use Rattle.js_native_calls.specs.declared.readying.Readied.TheVariants as readie
 -- once it is tested
 abbrev pub Becomes : Call → Conversion → Value → Place → HeapView → Result Readied Halt → Type 0
 Becomes call c v place h (Ok (readied.Value w)) = Works (primitive_or_kept call c v place) h (Ok w) h
-Becomes call c v place h (Ok (readied.Asked id)) = (v ≡ value.Object id) × (is_kept c v ≡ false)
+Becomes call c v place h (Ok (readied.Asked id)) = (v ≡ value.Object id) × (is_kept h c v ≡ false)
 Becomes call c v place h (Err e) = Works (primitive_or_kept call c v place) h (Err e) h
 
 -- with its test
 abbrev pub Readies : Call → Native → Conversion → Value → Place → HeapView → Result Readied Halt → HeapView → Type 0
 Readies call n c v place h (Ok (readied.Value w)) h' = Works (converted call n c v place) h (Ok w) h'
 Readies call n c v place h (Ok (readied.Asked id)) h' =
-    (v ≡ value.Object id) × (is_kept c v ≡ false) × Works (tested n c v place) h (Ok tt) h'
+    (v ≡ value.Object id) × (is_kept h' c v ≡ false) × Works (tested n c v place) h (Ok tt) h'
 Readies call n c v place h (Err e) h' = Works (converted call n c v place) h (Err e) h'

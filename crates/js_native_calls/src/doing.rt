@@ -7,6 +7,7 @@ ghost use Rattle.js_native_calls.specs.Calls as spec;
 
 use crate::errors::error_text;
 use crate::joining::array_text;
+use crate::searching::pattern_done;
 use heap_values::Value;
 use js_evaluation::{Native, PlainNative};
 use js_machine::{Machine, Now, Step};
@@ -29,6 +30,7 @@ pub fn native_done<'p>(
     match native {
         Native::Plain(native) => plain_done(machine, native, done.as_slice(), given, place),
         Native::Pac(function) => host_call(machine, function, done, place),
+        Native::Pattern(native) => pattern_done(machine, native, done, given.len(), place),
         Native::ErrorToString => error_done(machine, done.as_slice(), given, place),
         Native::ArrayJoin => join_done(machine, done.as_slice(), given, place),
         Native::ArrayToString => list_done(machine, done.as_slice(), given, place),

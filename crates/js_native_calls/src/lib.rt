@@ -13,6 +13,7 @@ mod giving;
 mod handed;
 mod joining;
 mod readying;
+mod searching;
 
 pub use calls::native_call;
 pub use converting::convert;
@@ -20,3 +21,4 @@ pub use errors::{error_message, error_named, joined};
 pub use giving::type_error;
 pub use handed::value_converted;
 pub use joining::element_converted;
+pub use searching::begin_converted;

@@ -38,19 +38,20 @@ pub fn ready(
     let conversion = conversion_at(native, at);
     let value = argument(alloc, values, at)?;
     test_handed(alloc, heap, native, conversion, &value, place)?;
-    kept_or_settled(alloc, conversion, value, place)
+    kept_or_settled(alloc, heap, conversion, value, place)
 }
 
 /// A value that is kept stays as it is, an object is to be asked, and any other value is settled at once.
 fn kept_or_settled(
     alloc: Global,
+    heap: &Heap,
     conversion: Conversion,
     value: Value,
     place: Place,
 ) -> Result<Readied, Halt>
-    ensures { (call : Call) (heap : HeapView) → spec.Becomes call conversion value place heap result }
+    ensures { (call : Call) → spec.Becomes call conversion value place heap.now result }
 {
-    if is_kept(conversion, &value) {
+    if is_kept(heap, conversion, &value) {
         return Ok(Readied::Value(value));
     }
     match value {

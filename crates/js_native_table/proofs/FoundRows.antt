@@ -8,6 +8,8 @@ use Rattle.pac_functions.specs.declared.call.PacFunction.{PacFunction}
 use Rattle.text_builtins.specs.declared.call.TextMethod.{TextMethod}
 use Rattle.js_evaluation.specs.declared.native.Native.{Native}
 use Rattle.js_evaluation.specs.declared.native.Native.TheVariants as native
+use Rattle.js_evaluation.specs.declared.native.PatternNative.{PatternNative}
+use Rattle.js_evaluation.specs.declared.native.PatternNative.TheVariants as pattern
 use Rattle.js_evaluation.specs.declared.native.PlainNative.TheVariants as plain
 use Rattle.js_evaluation.specs.NativeTable.{Row, RowRead, row_read, natives, no_row, native_at, native_row, row_among, is_same}
 
@@ -53,6 +55,28 @@ from_number m = refl
 pub from_array : (m : ArrayMethod) → row_among (drop 57 natives) (native.Plain (plain.ArrayMethod m)) ≡ native_row (native.Plain (plain.ArrayMethod m))
 unfolding natives native_row
 from_array m = refl
+
+-- the first row of a method that searches a text for a pattern
+abbrev pub place_of : PatternNative → ℕ
+place_of pattern.Replace = 39
+place_of pattern.Split = 41
+place_of pattern.Exec = 72
+place_of pattern.Test = 73
+place_of pattern.Match = 75
+place_of pattern.Search = 76
+
+pub from_pattern : (n : PatternNative) → row_among (drop (place_of n) natives) (native.Pattern n) ≡ native_row (native.Pattern n)
+unfolding natives native_row
+from_pattern pattern.Replace = refl
+from_pattern pattern.Split = refl
+from_pattern pattern.Exec = refl
+from_pattern pattern.Test = refl
+from_pattern pattern.Match = refl
+from_pattern pattern.Search = refl
+
+pub from_pattern_text : row_among (drop 74 natives) (native.Plain plain.PatternToString) ≡ native_row (native.Plain plain.PatternToString)
+unfolding natives native_row
+from_pattern_text = refl
 
 pub from_error_text : row_among (drop 10 natives) native.ErrorToString ≡ native_row native.ErrorToString
 unfolding natives native_row

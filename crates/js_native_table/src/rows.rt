@@ -3,7 +3,7 @@ ghost use Rattle.std.specs.Prelude.{◌≡◌, map, find, option_copied};
 ghost use Rattle.js_evaluation.specs.declared.native.Native.TheVariants as native_is;
 ghost use Rattle.js_evaluation.specs.NativeTable as spec;
 
-use js_evaluation::{NATIVES, NO_ROW, Native, NativeRow, PlainNative};
+use js_evaluation::{NATIVES, NO_ROW, Native, NativeRow, PatternNative, PlainNative};
 
 /// All rows, in the order of their numbers from 0.
 pub fn natives() -> &'static [NativeRow]
@@ -40,9 +40,23 @@ fn rows_for(native: Native) -> &'static [NativeRow]
     match native {
         Native::Plain(native) => rows_for_plain(native),
         Native::Pac(_) => &NATIVES[13..],
+        Native::Pattern(native) => rows_for_pattern(native),
         Native::ErrorToString => &NATIVES[10..],
         Native::ArrayJoin => &NATIVES[67..],
         Native::ArrayToString => &NATIVES[68..],
+    }
+}
+
+fn rows_for_pattern(native: PatternNative) -> &'static [NativeRow]
+    ensures { spec.row_among (map spec.row_read result.now) (native_is.Pattern native) ≡ spec.native_row (native_is.Pattern native) }
+{
+    match native {
+        PatternNative::Replace => &NATIVES[39..],
+        PatternNative::Split => &NATIVES[41..],
+        PatternNative::Exec => &NATIVES[72..],
+        PatternNative::Test => &NATIVES[73..],
+        PatternNative::Match => &NATIVES[75..],
+        PatternNative::Search => &NATIVES[76..],
     }
 }
 
@@ -53,6 +67,7 @@ fn rows_for_plain(native: PlainNative) -> &'static [NativeRow]
         PlainNative::TextMethod(_) => &NATIVES[34..],
         PlainNative::NumberMethod(_) => &NATIVES[49..],
         PlainNative::ArrayMethod(_) => &NATIVES[57..],
+        PlainNative::PatternToString => &NATIVES[74..],
         _ => natives(),
     }
 }

@@ -10,6 +10,7 @@ ghost use Rattle.heap_steps.specs.Works.{Tests, Works};
 
 use crate::arrays::is_array;
 use crate::numbers::is_number;
+use crate::patterns::is_pattern;
 use heap_steps::{Halt, callable, throw_type_error};
 use heap_values::Value;
 use js_convert::{Numeric, to_number, to_text};
@@ -39,6 +40,11 @@ pub fn test_handed(
         Conversion::ThisNumber => test_receiver(alloc, heap, is_number(value), place),
         Conversion::ThisBoolean => test_receiver(alloc, heap, is_boolean(value), place),
         Conversion::ThisArray => test_kept(alloc, is_array(heap, value), native, place),
+        Conversion::ThisPattern => {
+            let is_right = is_pattern(heap, value);
+            test_receiver(alloc, heap, is_right, place)
+        }
+        Conversion::Pattern => test_kept(alloc, is_pattern(heap, value), native, place),
         Conversion::Replacement => test_kept(alloc, !is_callable(heap, value), native, place),
         Conversion::Kept => Ok(()),
         Conversion::Primitive => Ok(()),
@@ -46,6 +52,8 @@ pub fn test_handed(
         Conversion::OptionalText => Ok(()),
         Conversion::Position => Ok(()),
         Conversion::Number => Ok(()),
+        Conversion::PatternOrText => Ok(()),
+        Conversion::OptionalPatternOrText => Ok(()),
     }
 }
 
@@ -91,8 +99,8 @@ fn is_callable(heap: &Heap, value: &Value) -> bool
 
 /// Whether a value that is handed to a native stays as it is. Any other value becomes a primitive one, and then what
 /// `settled` makes of that.
-pub fn is_kept(conversion: Conversion, value: &Value) -> bool
-    ensures { result ≡ spec.is_kept conversion value.now }
+pub fn is_kept(heap: &Heap, conversion: Conversion, value: &Value) -> bool
+    ensures { result ≡ spec.is_kept heap.now conversion value.now }
 {
     match conversion {
         Conversion::Kept => true,
@@ -100,8 +108,14 @@ pub fn is_kept(conversion: Conversion, value: &Value) -> bool
         Conversion::ThisNumber => true,
         Conversion::ThisBoolean => true,
         Conversion::ThisArray => true,
+        Conversion::ThisPattern => true,
+        Conversion::Pattern => true,
         Conversion::OptionalText => matches!(value, Value::Undefined),
         Conversion::Position => matches!(value, Value::Undefined),
+        Conversion::PatternOrText => is_pattern(heap, value),
+        Conversion::OptionalPatternOrText => {
+            matches!(value, Value::Undefined) || is_pattern(heap, value)
+        }
         Conversion::Primitive => false,
         Conversion::Text => false,
         Conversion::Replacement => false,
@@ -133,6 +147,8 @@ pub fn settled(
         Conversion::Text => text_settled(alloc, &value),
         Conversion::OptionalText => text_settled(alloc, &value),
         Conversion::Replacement => text_settled(alloc, &value),
+        Conversion::PatternOrText => text_settled(alloc, &value),
+        Conversion::OptionalPatternOrText => text_settled(alloc, &value),
         Conversion::Position => position_of(to_number(&value), place),
         Conversion::Number => number_or_none(to_number(&value), place),
         Conversion::Kept => Ok(value),
@@ -141,6 +157,8 @@ pub fn settled(
         Conversion::ThisNumber => Ok(value),
         Conversion::ThisBoolean => Ok(value),
         Conversion::ThisArray => Ok(value),
+        Conversion::ThisPattern => Ok(value),
+        Conversion::Pattern => Ok(value),
     }
 }
 

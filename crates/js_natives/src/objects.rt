@@ -151,5 +151,6 @@ pub fn class_of(kind: Kind) -> &'static [u8]
         Kind::Function(_, _) => b"[object Function]",
         Kind::Native(_) => b"[object Function]",
         Kind::Error => b"[object Error]",
+        Kind::Pattern(_) => b"[object RegExp]",
     }
 }

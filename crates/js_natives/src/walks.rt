@@ -3,6 +3,7 @@ ghost use Rattle.std.specs.Prelude.{◌≡◌, ◌+◌, ◌*◌, ◌<◌, ◌≤
 ghost use Rattle.js_convert.specs.Texts.{text_of};
 ghost use Rattle.js_evaluation.specs.Handed as given;
 ghost use Rattle.js_evaluation.specs.NativeWork as work;
+ghost use Rattle.js_evaluation.specs.NativeTable as table;
 ghost use Rattle.js_evaluation.specs.PacNatives.{pac_walk};
 ghost use Rattle.js_evaluation.specs.Walks as spec;
 ghost use Rattle.js_natives.specs.Charges.{Charges};
@@ -41,6 +42,21 @@ pub fn charge_walk(
 {
     let walk = walk_of(Native::Pac(function));
     charge_values(alloc, fuel, walk, arguments, arguments.len(), place)
+}
+
+/// Takes what the walk of a native costs that goes over values alone, on those that it takes, which are converted: so
+/// many were handed to it, surplus ones too.
+pub fn charge_walk_of(
+    alloc: Global,
+    fuel: &mut u64,
+    native: Native,
+    values: &[Value],
+    handed: usize,
+    place: Place,
+) -> Result<(), Halt>
+    ensures { Charges (spec.values_walk (table.walk_of native) values.now handed) place fuel.old result fuel.new }
+{
+    charge_values(alloc, fuel, walk_of(native), values, handed, place)
 }
 
 /// Takes what the walk of a native costs on the values that it takes, which are converted: so many were handed to it,
@@ -169,12 +185,19 @@ fn keys_in(alloc: Global, heap: &Heap, value: &Value) -> Result<u64, Memory>
     }
 }
 
-/// Takes each place of the text of the first value, with the one behind its end, beside each of the second.
+/// Takes each place of the text of the first value, with the one behind its end, beside each of the second; the units
+/// of the texts where that is a pattern.
 fn charge_search(fuel: &mut u64, values: &[Value], place: Place) -> Result<(), Halt>
-    ensures { Charges (spec.search_walk (given.argument 0 values.now) (given.argument 1 values.now)) place fuel.old result fuel.new }
+    ensures { Charges (spec.search_walk values.now) place fuel.old result fuel.new }
 {
-    let walk = walk_beside(units_at(values, 0), units_at(values, 1));
-    charge_units(fuel, walk, place)
+    match values.get(1) {
+        Some(Value::Object(_)) => charge_text_units(fuel, values, place),
+        _ => charge_units(
+            fuel,
+            walk_beside(units_at(values, 0), units_at(values, 1)),
+            place,
+        ),
+    }
 }
 
 /// Takes the units of the texts among values.

@@ -6,6 +6,7 @@ use crate::arrays::{array_made, array_work, is_array};
 use crate::errors::make_error;
 use crate::numbers::{is_number, number_of, number_work};
 use crate::objects::{keys_value, object_of, object_text, own_property};
+use crate::patterns::pattern_text;
 use crate::texts::{give_text_of, string_of, text_of_units, text_work};
 use crate::walks::argument;
 use heap_steps::{Halt, counted};
@@ -54,5 +55,6 @@ pub fn plain_work(
         PlainNative::TextMethod(method) => text_work(alloc, heap, method, values, place),
         PlainNative::NumberMethod(method) => number_work(alloc, heap, method, values, place),
         PlainNative::ArrayMethod(method) => array_work(alloc, heap, method, values, place),
+        PlainNative::PatternToString => pattern_text(alloc, heap, &first, place),
     }
 }

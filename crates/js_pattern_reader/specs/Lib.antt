@@ -6,6 +6,7 @@ pub mod Examples
 pub mod Flags
 pub mod Groups
 pub mod Laws
+pub mod Literal
 pub mod Pieces
 pub mod Reading
 pub mod Spots

@@ -12,9 +12,11 @@ mod escapes;
 mod flags;
 mod groups;
 mod limits;
+mod literal;
 mod pattern;
 mod pieces;
 
 pub use answer::PatternAnswer;
 pub use limits::{MOST_GROUPS, MOST_NESTED, MOST_TIMES};
+pub use literal::PatternLiteral;
 pub use pattern::{bodies_are_numbered, read_pattern};

@@ -120,6 +120,7 @@ fn constructed_by<'p>(
         Kind::Plain => type_error(machine, NO_CONSTRUCTOR, place),
         Kind::Array => type_error(machine, NO_CONSTRUCTOR, place),
         Kind::Error => type_error(machine, NO_CONSTRUCTOR, place),
+        Kind::Pattern(_) => type_error(machine, NO_CONSTRUCTOR, place),
     }
 }
 

@@ -15,4 +15,6 @@ pub use calls::{argument_done, first_arguments};
 pub use choices::{chosen, comma_from, conditional};
 pub use creation::{called_new, new_argument_done, new_value};
 pub use functions::function_value;
-pub use literals::{array_literal, item_done, object_literal, property_done, text_literal};
+pub use literals::{
+    array_literal, item_done, object_literal, pattern_literal, property_done, text_literal,
+};

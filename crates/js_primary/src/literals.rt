@@ -8,10 +8,11 @@ ghost use Rattle.js_frames.specs.RestOf.{after_expression};
 ghost use Rattle.js_frames.specs.declared.expression_frame.ExpressionFrame.TheVariants as of_expression;
 ghost use Rattle.js_machine.specs.Moves.{Moves, at};
 
-use heap_steps::{define, define_at, make_by, put, test_text};
+use heap_steps::{define, define_as, define_at, make_by, make_pattern, put, test_text};
 use heap_values::{BuiltIn, Kind, ObjectId, Value};
 use js_frames::{ExpressionFrame, Frame};
 use js_machine::{Machine, Now, Step};
+use js_pattern_reader::PatternLiteral;
 use js_tree::{Expression, Place, Property};
 use object_heap::Marks;
 use utf16_text::{Memory, Text};
@@ -23,6 +24,12 @@ const OWN: Marks = Marks {
     deletable: true,
 };
 
+/// The marks of where the search for a pattern begins.
+const HIDDEN: Marks = Marks {
+    listed: false,
+    deletable: false,
+};
+
 /// A text. It isn't counted, and so must be short enough.
 pub fn text_literal<'p>(machine: &mut Machine<'p>, text: &'p Text, place: Place) -> Step<'p>
     ensures { Moves (rule.text_literal place text.entry.now) machine.old result machine.new }
@@ -30,6 +37,30 @@ pub fn text_literal<'p>(machine: &mut Machine<'p>, text: &'p Text, place: Place)
     test_text(text, place)?;
     let text = text.copy(machine.alloc)?;
     Ok(Now::Back(Ok(Value::Text(text))))
+}
+
+/// A new object for a pattern, whose search begins at 0. What it says of its literal must be short enough.
+pub fn pattern_literal<'p>(
+    machine: &mut Machine<'p>,
+    literal: &'p PatternLiteral,
+    place: Place,
+) -> Step<'p>
+    ensures { Moves (rule.pattern_literal place literal.entry.now) machine.old result machine.new }
+{
+    test_text(literal.body(), place)?;
+    let heap = &mut machine.state.heap;
+    let pattern = make_pattern(machine.alloc, heap, literal, place)?;
+    let begin = Value::Number(Whole::from(0_u32));
+    define_as(
+        machine.alloc,
+        heap,
+        pattern,
+        b"lastIndex",
+        begin,
+        HIDDEN,
+        place,
+    )?;
+    Ok(Now::Back(Ok(Value::Object(pattern))))
 }
 
 /// An array, made before its items are evaluated.

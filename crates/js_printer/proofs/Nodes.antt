@@ -1,6 +1,7 @@
 -- What is written of a tree is what is written of its parts, one behind another: an equation for each kind of node.
 use Rattle.std.proofs.Common.{◌≡◌, ℕ, ℤ, List, [], ◌∷◌, Bool, Option, refl}
 use Rattle.std.specs.Prelude.{pos}
+use Rattle.js_pattern_reader.specs.Literal.{Literal}
 use Rattle.js_tree.specs.declared.place.Place.{Place}
 use Rattle.js_tree.specs.declared.token.Token.{Token}
 use Rattle.js_tree.specs.declared.token.TokenKind.TheVariants as token
@@ -11,7 +12,7 @@ use Rattle.js_tree.specs.declared.operators.UnaryOp.{UnaryOp}
 use Rattle.js_tree.specs.declared.operators.UpdateForm.TheVariants.{Prefix, Postfix}
 use Rattle.js_tree.specs.declared.operators.UpdateOp.{UpdateOp}
 use Rattle.js_tree.specs.declared.operators.AssignOp.{AssignOp}
-use Rattle.js_tree.specs.Tree.{ExpressionTree, Number, Characters, True, False, Null, This, Name, Array, Object, Function, Numbered, Suffixed, New, Update, Unary, Chain, Conditional, Assign, Comma, OptionalExpression, absent, present, Expressions, Items, Properties, a_member, an_index, a_call, Suffixes, Operands, FunctionTree, a_function, StatementTree, Block, Empty, Evaluate, Debugger, Var, If, DoWhile, While, For, ForIn, Continue, Break, Return, Throw, Switch, Try, Declare, DeclareNumbered, OptionalStatement, omitted, given, Statements, Declarations, Branches, StartTree, no_start, start_var, start_value, TargetTree, target_value, target_declared, Clauses, CatchTree, no_catch, a_catch}
+use Rattle.js_tree.specs.Tree.{ExpressionTree, Number, Characters, Pattern, True, False, Null, This, Name, Array, Object, Function, Numbered, Suffixed, New, Update, Unary, Chain, Conditional, Assign, Comma, OptionalExpression, absent, present, Expressions, Items, Properties, a_member, an_index, a_call, Suffixes, Operands, FunctionTree, a_function, StatementTree, Block, Empty, Evaluate, Debugger, Var, If, DoWhile, While, For, ForIn, Continue, Break, Return, Throw, Switch, Try, Declare, DeclareNumbered, OptionalStatement, omitted, given, Statements, Declarations, Branches, StartTree, no_start, start_var, start_value, TargetTree, target_value, target_declared, Clauses, CatchTree, no_catch, a_catch}
 use Rattle.js_tree.specs.declared.keyword.Keyword.{Keyword}
 use Rattle.js_tree.specs.declared.keyword.Keyword.TheVariants as word
 use Rattle.js_grammar.specs.Printing.{printed, sign_token, word_token, keyword_token, unary_token, update_token, assign_token, comma_if, parameters_tokens, own_name_tokens, expression_tokens, optional_tokens, expressions_tokens, items_tokens, item_tokens, properties_tokens, suffix_tokens, suffixes_tokens, operands_tokens, function_tokens, statement_tokens, statements_tokens, otherwise_tokens, finally_tokens, first_value_tokens, declarations_tokens, branches_tokens, start_tokens, target_tokens, test_tokens, clauses_tokens, catch_tokens}
@@ -54,6 +55,11 @@ module _ (out : List ℕ) where
   pub characters_written : (p : Place) (x : List ℕ) → plus_tree out (Characters p x) ≡ plus out (printed (token.Text x))
   unfolding expression_tokens
   characters_written p x = refl
+
+  pub pattern_written : (p : Place) (l : Literal)
+      → plus_tree out (Pattern p l) ≡ end_round (plus (round out) (printed (token.Pattern l)))
+  unfolding expression_tokens written
+  pattern_written p l = refl
 
   pub true_written : (p : Place) → plus_tree out (True p) ≡ plus_word out word.True
   unfolding expression_tokens
@@ -295,4 +301,4 @@ module _ (out : List ℕ) where
   unfolding expression_tokens written
   catch_written x s = simp written_append
 
-pub ruleset nodes = (nothing_written, number_written, characters_written, true_written, false_written, null_written, this_written, name_written, array_written, object_written, function_written, numbered_written, suffixed_written, new_written, prefix_written, postfix_written, unary_written, chain_written, conditional_written, assign_written, comma_written, absent_written, present_written, hole_written, item_written, member_written, index_written, call_written, whole_function_written, block_written, empty_written, evaluate_written, debugger_written, var_written, if_written, do_while_written, while_written, for_written, for_in_written, continue_written, break_written, return_written, throw_written, switch_written, try_written, declare_written, declare_numbered_written, no_else_written, else_written, no_finally_written, finally_written, no_value_written, value_written, no_start_written, start_var_written, start_value_written, target_value_written, target_declared_written, default_written, case_written, no_catch_written, catch_written)
+pub ruleset nodes = (nothing_written, number_written, characters_written, pattern_written, true_written, false_written, null_written, this_written, name_written, array_written, object_written, function_written, numbered_written, suffixed_written, new_written, prefix_written, postfix_written, unary_written, chain_written, conditional_written, assign_written, comma_written, absent_written, present_written, hole_written, item_written, member_written, index_written, call_written, whole_function_written, block_written, empty_written, evaluate_written, debugger_written, var_written, if_written, do_while_written, while_written, for_written, for_in_written, continue_written, break_written, return_written, throw_written, switch_written, try_written, declare_written, declare_numbered_written, no_else_written, else_written, no_finally_written, finally_written, no_value_written, value_written, no_start_written, start_var_written, start_value_written, target_value_written, target_declared_written, default_written, case_written, no_catch_written, catch_written)

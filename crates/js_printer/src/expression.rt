@@ -23,6 +23,7 @@ ghost use Rattle.js_grammar.specs.Printing.{
 ghost use Rattle.js_printer.specs.Written.{written};
 
 use crate::printer::Printer;
+use js_pattern_reader::PatternLiteral;
 use js_tree::{
     AssignOp, BoundName, Expression, ExpressionNode, Function, FunctionPart, Keyword, Operand,
     Property, Sign, Suffix, SuffixNode, UnaryOp, UpdateForm, UpdateOp,
@@ -38,6 +39,7 @@ impl Printer {
         match &e.node {
             ExpressionNode::Number(number) => self.put_number(*number),
             ExpressionNode::Text(text) => self.put_text(text),
+            ExpressionNode::Pattern(literal) => self.put_pattern_expression(literal),
             ExpressionNode::True => self.put_keyword(Keyword::True),
             ExpressionNode::False => self.put_keyword(Keyword::False),
             ExpressionNode::Null => self.put_keyword(Keyword::Null),
@@ -61,6 +63,14 @@ impl Printer {
     }
 
     // Each kind of node that has parts: its tokens, which don't depend on its place.
+
+    fn put_pattern_expression(&mut self, literal: &PatternLiteral) -> Result<(), Memory>
+        ensures { OnOk result (self.new ≡ written self.old (expression_tokens (tree.Pattern nowhere literal.now))) }
+    {
+        self.put_sign(Sign::LeftParenthesis)?;
+        self.put_pattern(literal)?;
+        self.put_sign(Sign::RightParenthesis)
+    }
 
     #[cycle(print)]
     fn put_array(&mut self, all: &[Option<Expression>]) -> Result<(), Memory>

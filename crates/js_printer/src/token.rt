@@ -17,10 +17,13 @@ ghost use Rattle.js_grammar.specs.Printing.{
   comma_if,
   else_if,
 };
+ghost use Rattle.std.specs.List.{flat_map};
+ghost use Rattle.js_grammar.specs.Patterns.{ascii_unit};
 ghost use Rattle.js_printer.specs.Written.{written};
 
 use crate::printer::Printer;
-use js_lexer::keyword_spelling;
+use js_lexer::{is_plain, keyword_spelling, numbered_unit};
+use js_pattern_reader::PatternLiteral;
 use js_tree::{AssignOp, BinaryOp, Keyword, Sign, UnaryOp, UpdateOp};
 use utf16_text::{Memory, Text};
 use whole_number::Whole;
@@ -118,6 +121,39 @@ impl Printer {
         self.out.push(b'"')?;
         text.escape_into(self.alloc, &mut self.out, true)?;
         self.out.extend_from_slice(b"\" ")?;
+        Ok(())
+    }
+
+    /// Writes a pattern literal. One that was read is ASCII; any other unit is written by its number.
+    pub fn put_pattern(&mut self, literal: &PatternLiteral) -> Result<(), Memory>
+        ensures { OnOk result (self.new ≡ written self.old (printed (token.Pattern literal.now) ∷ [])) }
+    {
+        self.out.push(b'/')?;
+        self.put_units(literal.body().units())?;
+        self.out.push(b'/')?;
+        self.put_units(literal.flags().units())?;
+        self.out.push(b' ')?;
+        Ok(())
+    }
+
+    /// Writes units from 32 to 126 as they are, and any other by its number.
+    fn put_units(&mut self, units: &[u16]) -> Result<(), Memory>
+        ensures { OnOk result (self.new ≡ self.old ++ flat_map ascii_unit units.now) }
+    {
+        for unit in units {
+            self.put_unit(*unit)?;
+        }
+        Ok(())
+    }
+
+    fn put_unit(&mut self, unit: u16) -> Result<(), Memory>
+        ensures { OnOk result (self.new ≡ self.old ++ ascii_unit unit) }
+    {
+        if is_plain(unit) {
+            self.out.extend_from_slice(&[unit as u8])?;
+        } else {
+            self.out.extend_from_slice(&numbered_unit(unit))?;
+        }
         Ok(())
     }
 

@@ -149,7 +149,7 @@ fn has_name(tokens: &[Token]) -> bool
 {
     match tokens {
         [] => false,
-        [token, ..] => !matches!(&token.kind, TokenKind::Sign(_)),
+        [token, ..] => !matches!(&token.kind, TokenKind::Pattern(_) | TokenKind::Sign(_)),
     }
 }
 

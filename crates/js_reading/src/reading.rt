@@ -112,7 +112,7 @@ pub fn next_name(alloc: Global, tokens: &[Token]) -> Result<Option<Text>, Memory
         TokenKind::Word(word) => Ok(Some(word.copy(alloc)?)),
         TokenKind::Text(text) => Ok(Some(text.copy(alloc)?)),
         TokenKind::Number(number) => Ok(Some(number.to_text(alloc)?)),
-        TokenKind::Sign(_) => Ok(None),
+        TokenKind::Pattern(_) | TokenKind::Sign(_) => Ok(None),
     }
 }
 

@@ -153,6 +153,7 @@ module _ (scopes : List Scope) where
   unfolding expression_in both boxed
   expression_made p (expression.Number n) fs = refl
   expression_made p (expression.Text x) fs = refl
+  expression_made p (expression.Pattern l) fs = refl
   expression_made p expression.True fs = refl
   expression_made p expression.False fs = refl
   expression_made p expression.Null fs = refl

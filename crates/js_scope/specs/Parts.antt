@@ -65,6 +65,7 @@ operand_in scopes o = expression_in scopes o.value >>= (λ e'. pure (record o { 
 abbrev pub expression_node_in : List Scope → ExpressionNode → Placing ExpressionNode
 expression_node_in scopes (expression.Number n) = pure (expression.Number n)
 expression_node_in scopes (expression.Text x) = pure (expression.Text x)
+expression_node_in scopes (expression.Pattern l) = pure (expression.Pattern l)
 expression_node_in scopes expression.True = pure expression.True
 expression_node_in scopes expression.False = pure expression.False
 expression_node_in scopes expression.Null = pure expression.Null

@@ -50,6 +50,7 @@ impl Part for ExpressionNode {
         match self {
             ExpressionNode::Number(_) => Ok(()),
             ExpressionNode::Text(_) => Ok(()),
+            ExpressionNode::Pattern(_) => Ok(()),
             ExpressionNode::True => Ok(()),
             ExpressionNode::False => Ok(()),
             ExpressionNode::Null => Ok(()),

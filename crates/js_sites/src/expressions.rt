@@ -27,6 +27,7 @@ pub(crate) fn add_expression(
     match &e.node {
         ExpressionNode::Number(_) => Ok(()),
         ExpressionNode::Text(_) => Ok(()),
+        ExpressionNode::Pattern(_) => Ok(()),
         ExpressionNode::True => Ok(()),
         ExpressionNode::False => Ok(()),
         ExpressionNode::Null => Ok(()),

@@ -4,6 +4,7 @@ use Rattle.std.specs.Prelude.{◌≡◌, ℕ, zero, suc, ℤ, pos, negsuc, List,
 use Rattle.std.proofs.Common.{sym, ap, ◌∙◌}
 use Rattle.std.specs.Coded.{Coded}
 use base.Stored.{Gv, gnil, gnum, gcons, num}
+use Rattle.js_pattern_reader.specs.Literal.{Literal}
 use Rattle.js_tree.specs.declared.place.Place.{Place}
 use Rattle.js_tree.specs.declared.bound.Bound.{Bound}
 use Rattle.js_tree.specs.declared.bound.Bound.TheVariants as bound
@@ -18,7 +19,7 @@ use Rattle.js_tree.specs.declared.operators.BinaryOp.{BinaryOp}
 use Rattle.js_tree.specs.declared.operators.BinaryOp.TheVariants as binary_op
 use Rattle.js_tree.specs.declared.operators.AssignOp.{AssignOp}
 use Rattle.js_tree.specs.declared.operators.AssignOp.TheVariants as assign_op
-use Rattle.js_tree.specs.Tree.{ExpressionTree, Number, Characters, True, False, Null, This, Name, Array, Object, Function, Numbered, Suffixed, New, Update, Unary, Chain, Conditional, Assign, Comma, OptionalExpression, absent, present, Expressions, no_expression, an_expression, Items, no_item, an_item, Properties, no_property, a_property, SuffixTree, a_member, an_index, a_call, Suffixes, no_suffix, a_suffix, Operands, no_operand, an_operand, FunctionTree, a_function, StatementTree, Block, Empty, Evaluate, Debugger, Var, If, DoWhile, While, For, ForIn, Continue, Break, Return, Throw, Switch, Try, Declare, DeclareNumbered, OptionalStatement, omitted, given, Statements, no_statement, a_statement, Declarations, no_declared, a_declared, Branches, no_branch, a_branch, StartTree, no_start, start_var, start_value, TargetTree, target_value, target_declared, Clauses, no_clause, a_clause, CatchTree, no_catch, a_catch}
+use Rattle.js_tree.specs.Tree.{ExpressionTree, Number, Characters, Pattern, True, False, Null, This, Name, Array, Object, Function, Numbered, Suffixed, New, Update, Unary, Chain, Conditional, Assign, Comma, OptionalExpression, absent, present, Expressions, no_expression, an_expression, Items, no_item, an_item, Properties, no_property, a_property, SuffixTree, a_member, an_index, a_call, Suffixes, no_suffix, a_suffix, Operands, no_operand, an_operand, FunctionTree, a_function, StatementTree, Block, Empty, Evaluate, Debugger, Var, If, DoWhile, While, For, ForIn, Continue, Break, Return, Throw, Switch, Try, Declare, DeclareNumbered, OptionalStatement, omitted, given, Statements, no_statement, a_statement, Declarations, no_declared, a_declared, Branches, no_branch, a_branch, StartTree, no_start, start_var, start_value, TargetTree, target_value, target_declared, Clauses, no_clause, a_clause, CatchTree, no_catch, a_catch}
 
 abbrev pub place_gv : Place → Gv
 place_gv p = gcons (gnum p.line) (gnum p.column)
@@ -69,6 +70,16 @@ texts_from _ = []
 pub texts_back : (xs : List (List ℕ)) → texts_from (texts_gv xs) ≡ xs
 texts_back [] = refl
 texts_back (x ∷ xs) = cc (text_back x, texts_back xs)
+
+abbrev pub literal_gv : Literal → Gv
+literal_gv x = gcons (text_gv x.body) (text_gv x.flags)
+
+abbrev pub literal_from : Gv → Literal
+literal_from (gcons a b) = record { body = text_from a; flags = text_from b }
+literal_from _ = record { body = []; flags = [] }
+
+pub literal_back : (x : Literal) → literal_from (literal_gv x) ≡ x
+literal_back x = λ i. record { body = text_back x.body i; flags = text_back x.flags i }
 
 abbrev pub bound_gv : Bound → Gv
 bound_gv bound.Unbound = gcons (gnum 0) (gcons gnil gnil)
@@ -263,23 +274,24 @@ abbrev mutual
   pub expression_gv : ExpressionTree → Gv
   expression_gv (Number x0 x1) = gcons (gnum 0) (gcons (place_gv x0) (gcons (int_gv x1) (gcons gnil (gcons gnil gnil))))
   expression_gv (Characters x0 x1) = gcons (gnum 1) (gcons (place_gv x0) (gcons (text_gv x1) (gcons gnil (gcons gnil gnil))))
-  expression_gv (True x0) = gcons (gnum 2) (gcons (place_gv x0) (gcons gnil (gcons gnil (gcons gnil gnil))))
-  expression_gv (False x0) = gcons (gnum 3) (gcons (place_gv x0) (gcons gnil (gcons gnil (gcons gnil gnil))))
-  expression_gv (Null x0) = gcons (gnum 4) (gcons (place_gv x0) (gcons gnil (gcons gnil (gcons gnil gnil))))
-  expression_gv (This x0) = gcons (gnum 5) (gcons (place_gv x0) (gcons gnil (gcons gnil (gcons gnil gnil))))
-  expression_gv (Name x0 x1) = gcons (gnum 6) (gcons (place_gv x0) (gcons (bound_name_gv x1) (gcons gnil (gcons gnil gnil))))
-  expression_gv (Array x0 x1) = gcons (gnum 7) (gcons (place_gv x0) (gcons (items_gv x1) (gcons gnil (gcons gnil gnil))))
-  expression_gv (Object x0 x1) = gcons (gnum 8) (gcons (place_gv x0) (gcons (properties_gv x1) (gcons gnil (gcons gnil gnil))))
-  expression_gv (Function x0 x1) = gcons (gnum 9) (gcons (place_gv x0) (gcons (function_gv x1) (gcons gnil (gcons gnil gnil))))
-  expression_gv (Numbered x0 x1) = gcons (gnum 10) (gcons (place_gv x0) (gcons (gnum x1) (gcons gnil (gcons gnil gnil))))
-  expression_gv (Suffixed x0 x1 x2) = gcons (gnum 11) (gcons (place_gv x0) (gcons (expression_gv x1) (gcons (suffixes_gv x2) (gcons gnil gnil))))
-  expression_gv (New x0 x1 x2) = gcons (gnum 12) (gcons (place_gv x0) (gcons (expression_gv x1) (gcons (expressions_gv x2) (gcons gnil gnil))))
-  expression_gv (Update x0 x1 x2 x3) = gcons (gnum 13) (gcons (place_gv x0) (gcons (update_form_gv x1) (gcons (update_op_gv x2) (gcons (expression_gv x3) gnil))))
-  expression_gv (Unary x0 x1 x2) = gcons (gnum 14) (gcons (place_gv x0) (gcons (unary_op_gv x1) (gcons (expression_gv x2) (gcons gnil gnil))))
-  expression_gv (Chain x0 x1 x2) = gcons (gnum 15) (gcons (place_gv x0) (gcons (expression_gv x1) (gcons (operands_gv x2) (gcons gnil gnil))))
-  expression_gv (Conditional x0 x1 x2 x3) = gcons (gnum 16) (gcons (place_gv x0) (gcons (expression_gv x1) (gcons (expression_gv x2) (gcons (expression_gv x3) gnil))))
-  expression_gv (Assign x0 x1 x2 x3) = gcons (gnum 17) (gcons (place_gv x0) (gcons (expression_gv x1) (gcons (assign_op_gv x2) (gcons (expression_gv x3) gnil))))
-  expression_gv (Comma x0 x1) = gcons (gnum 18) (gcons (place_gv x0) (gcons (expressions_gv x1) (gcons gnil (gcons gnil gnil))))
+  expression_gv (Pattern x0 x1) = gcons (gnum 2) (gcons (place_gv x0) (gcons (literal_gv x1) (gcons gnil (gcons gnil gnil))))
+  expression_gv (True x0) = gcons (gnum 3) (gcons (place_gv x0) (gcons gnil (gcons gnil (gcons gnil gnil))))
+  expression_gv (False x0) = gcons (gnum 4) (gcons (place_gv x0) (gcons gnil (gcons gnil (gcons gnil gnil))))
+  expression_gv (Null x0) = gcons (gnum 5) (gcons (place_gv x0) (gcons gnil (gcons gnil (gcons gnil gnil))))
+  expression_gv (This x0) = gcons (gnum 6) (gcons (place_gv x0) (gcons gnil (gcons gnil (gcons gnil gnil))))
+  expression_gv (Name x0 x1) = gcons (gnum 7) (gcons (place_gv x0) (gcons (bound_name_gv x1) (gcons gnil (gcons gnil gnil))))
+  expression_gv (Array x0 x1) = gcons (gnum 8) (gcons (place_gv x0) (gcons (items_gv x1) (gcons gnil (gcons gnil gnil))))
+  expression_gv (Object x0 x1) = gcons (gnum 9) (gcons (place_gv x0) (gcons (properties_gv x1) (gcons gnil (gcons gnil gnil))))
+  expression_gv (Function x0 x1) = gcons (gnum 10) (gcons (place_gv x0) (gcons (function_gv x1) (gcons gnil (gcons gnil gnil))))
+  expression_gv (Numbered x0 x1) = gcons (gnum 11) (gcons (place_gv x0) (gcons (gnum x1) (gcons gnil (gcons gnil gnil))))
+  expression_gv (Suffixed x0 x1 x2) = gcons (gnum 12) (gcons (place_gv x0) (gcons (expression_gv x1) (gcons (suffixes_gv x2) (gcons gnil gnil))))
+  expression_gv (New x0 x1 x2) = gcons (gnum 13) (gcons (place_gv x0) (gcons (expression_gv x1) (gcons (expressions_gv x2) (gcons gnil gnil))))
+  expression_gv (Update x0 x1 x2 x3) = gcons (gnum 14) (gcons (place_gv x0) (gcons (update_form_gv x1) (gcons (update_op_gv x2) (gcons (expression_gv x3) gnil))))
+  expression_gv (Unary x0 x1 x2) = gcons (gnum 15) (gcons (place_gv x0) (gcons (unary_op_gv x1) (gcons (expression_gv x2) (gcons gnil gnil))))
+  expression_gv (Chain x0 x1 x2) = gcons (gnum 16) (gcons (place_gv x0) (gcons (expression_gv x1) (gcons (operands_gv x2) (gcons gnil gnil))))
+  expression_gv (Conditional x0 x1 x2 x3) = gcons (gnum 17) (gcons (place_gv x0) (gcons (expression_gv x1) (gcons (expression_gv x2) (gcons (expression_gv x3) gnil))))
+  expression_gv (Assign x0 x1 x2 x3) = gcons (gnum 18) (gcons (place_gv x0) (gcons (expression_gv x1) (gcons (assign_op_gv x2) (gcons (expression_gv x3) gnil))))
+  expression_gv (Comma x0 x1) = gcons (gnum 19) (gcons (place_gv x0) (gcons (expressions_gv x1) (gcons gnil (gcons gnil gnil))))
 
   pub optional_expression_gv : OptionalExpression → Gv
   optional_expression_gv absent = gcons (gnum 0) (gcons gnil gnil)
@@ -368,7 +380,7 @@ abbrev mutual
 
 abbrev mutual
   pub expression_from : Gv → ExpressionTree
-  expression_from (gcons t (gcons a (gcons b (gcons c (gcons d _))))) = pick (num t) ((Number (place_from a) (int_from b)) ∷ (Characters (place_from a) (text_from b)) ∷ (True (place_from a)) ∷ (False (place_from a)) ∷ (Null (place_from a)) ∷ (This (place_from a)) ∷ (Name (place_from a) (bound_name_from b)) ∷ (Array (place_from a) (items_from b)) ∷ (Object (place_from a) (properties_from b)) ∷ (Function (place_from a) (function_from b)) ∷ (Numbered (place_from a) (num b)) ∷ (Suffixed (place_from a) (expression_from b) (suffixes_from c)) ∷ (New (place_from a) (expression_from b) (expressions_from c)) ∷ (Update (place_from a) (update_form_from b) (update_op_from c) (expression_from d)) ∷ (Unary (place_from a) (unary_op_from b) (expression_from c)) ∷ (Chain (place_from a) (expression_from b) (operands_from c)) ∷ (Conditional (place_from a) (expression_from b) (expression_from c) (expression_from d)) ∷ (Assign (place_from a) (expression_from b) (assign_op_from c) (expression_from d)) ∷ (Comma (place_from a) (expressions_from b)) ∷ []) (Number (place_from gnil) (int_from gnil))
+  expression_from (gcons t (gcons a (gcons b (gcons c (gcons d _))))) = pick (num t) ((Number (place_from a) (int_from b)) ∷ (Characters (place_from a) (text_from b)) ∷ (Pattern (place_from a) (literal_from b)) ∷ (True (place_from a)) ∷ (False (place_from a)) ∷ (Null (place_from a)) ∷ (This (place_from a)) ∷ (Name (place_from a) (bound_name_from b)) ∷ (Array (place_from a) (items_from b)) ∷ (Object (place_from a) (properties_from b)) ∷ (Function (place_from a) (function_from b)) ∷ (Numbered (place_from a) (num b)) ∷ (Suffixed (place_from a) (expression_from b) (suffixes_from c)) ∷ (New (place_from a) (expression_from b) (expressions_from c)) ∷ (Update (place_from a) (update_form_from b) (update_op_from c) (expression_from d)) ∷ (Unary (place_from a) (unary_op_from b) (expression_from c)) ∷ (Chain (place_from a) (expression_from b) (operands_from c)) ∷ (Conditional (place_from a) (expression_from b) (expression_from c) (expression_from d)) ∷ (Assign (place_from a) (expression_from b) (assign_op_from c) (expression_from d)) ∷ (Comma (place_from a) (expressions_from b)) ∷ []) (Number (place_from gnil) (int_from gnil))
   expression_from _ = (Number (place_from gnil) (int_from gnil))
 
   pub optional_expression_from : Gv → OptionalExpression
@@ -443,6 +455,7 @@ mutual
   pub expression_back : (x : ExpressionTree) → expression_from (expression_gv x) ≡ x
   expression_back (Number x0 x1) = cc (place_back x0, int_back x1)
   expression_back (Characters x0 x1) = cc (place_back x0, text_back x1)
+  expression_back (Pattern x0 x1) = cc (place_back x0, literal_back x1)
   expression_back (True x0) = cc (place_back x0)
   expression_back (False x0) = cc (place_back x0)
   expression_back (Null x0) = cc (place_back x0)

@@ -2,6 +2,7 @@
 -- constructor for each node, with its place first and then its parts as they are written. A list of parts is a type of
 -- its own, and so is a part that may be missing, since a type can't hold itself inside `List` or `Option`.
 use Rattle.std.specs.Prelude.{ℕ, ℤ, List, [], ◌∷◌, Option, Some, None}
+use Rattle.js_pattern_reader.specs.Literal.{Literal}
 use Rattle.js_tree.specs.declared.place.Place.{Place}
 use Rattle.js_tree.specs.declared.bound.BoundName.{BoundName}
 use Rattle.js_tree.specs.declared.operators.UnaryOp.{UnaryOp}
@@ -15,6 +16,7 @@ mutual
   pub data ExpressionTree : Type 0 where
     Number : Place → ℤ → ExpressionTree
     Characters : Place → List ℕ → ExpressionTree
+    Pattern : Place → Literal → ExpressionTree
     True : Place → ExpressionTree
     False : Place → ExpressionTree
     Null : Place → ExpressionTree

@@ -24,7 +24,7 @@ use Rattle.js_tree.specs.declared.statement.ForTarget.{ForTarget}
 use Rattle.js_tree.specs.declared.statement.StatementNode.TheVariants as statement_node
 use Rattle.js_tree.specs.declared.statement.ForStart.TheVariants as for_start
 use Rattle.js_tree.specs.declared.statement.ForTarget.TheVariants as for_target
-use Rattle.js_tree.specs.Tree.{ExpressionTree, Number, Characters, True, False, Null, This, Name, Array, Object, Function, Numbered, Suffixed, New, Update, Unary, Chain, Conditional, Assign, Comma, OptionalExpression, absent, present, Properties, no_property, a_property, SuffixTree, a_member, an_index, a_call, Suffixes, no_suffix, a_suffix, Operands, no_operand, an_operand, FunctionTree, a_function, StatementTree, Block, Empty, Evaluate, Debugger, Var, If, DoWhile, While, For, ForIn, Continue, Break, Return, Throw, Switch, Try, Declare, DeclareNumbered, OptionalStatement, omitted, given, Declarations, no_declared, a_declared, Branches, no_branch, a_branch, StartTree, no_start, start_var, start_value, TargetTree, target_value, target_declared, Clauses, no_clause, a_clause, CatchTree, no_catch, a_catch, optional_of, expressions_of, items_of, statements_of}
+use Rattle.js_tree.specs.Tree.{ExpressionTree, Number, Characters, Pattern, True, False, Null, This, Name, Array, Object, Function, Numbered, Suffixed, New, Update, Unary, Chain, Conditional, Assign, Comma, OptionalExpression, absent, present, Properties, no_property, a_property, SuffixTree, a_member, an_index, a_call, Suffixes, no_suffix, a_suffix, Operands, no_operand, an_operand, FunctionTree, a_function, StatementTree, Block, Empty, Evaluate, Debugger, Var, If, DoWhile, While, For, ForIn, Continue, Break, Return, Throw, Switch, Try, Declare, DeclareNumbered, OptionalStatement, omitted, given, Declarations, no_declared, a_declared, Branches, no_branch, a_branch, StartTree, no_start, start_var, start_value, TargetTree, target_value, target_declared, Clauses, no_clause, a_clause, CatchTree, no_catch, a_catch, optional_of, expressions_of, items_of, statements_of}
 
 abbrev pub suffix_of : Place → SuffixNode → SuffixTree
 suffix_of p (suffix_node.Member x0) = a_member p x0
@@ -85,6 +85,7 @@ optional_catch (Some x) = a_catch x.value.name x.value.body
 abbrev pub expression_of : Place → ExpressionNode → ExpressionTree
 expression_of p (expression_node.Number x0) = Number p x0
 expression_of p (expression_node.Text x0) = Characters p x0
+expression_of p (expression_node.Pattern x0) = Pattern p x0
 expression_of p expression_node.True = True p
 expression_of p expression_node.False = False p
 expression_of p expression_node.Null = Null p

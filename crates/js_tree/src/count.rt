@@ -70,6 +70,7 @@ pub fn count_expression(e: &Expression, n: u64) -> u64
     match &e.node {
         ExpressionNode::Number(_) => more(n, 1),
         ExpressionNode::Text(_) => more(n, 1),
+        ExpressionNode::Pattern(_) => more(n, 1),
         ExpressionNode::True => more(n, 1),
         ExpressionNode::False => more(n, 1),
         ExpressionNode::Null => more(n, 1),

@@ -1,5 +1,6 @@
 // Expressions and functions.
 use crate::{AssignOp, BinaryOp, BoundName, Place, StatementList, UnaryOp, UpdateForm, UpdateOp};
+use js_pattern_reader::PatternLiteral;
 use std::marker::Model;
 use utf16_text::{List, Text};
 use whole_number::Whole;
@@ -37,6 +38,7 @@ pub struct Expression {
 pub enum ExpressionNode {
     Number(Whole),
     Text(Text),
+    Pattern(PatternLiteral),
     True,
     False,
     Null,

@@ -1,7 +1,8 @@
 //! Places, tokens and trees of scripts: the data that lexer, parser, printer, scope resolver and evaluator share.
 //!
 //! Tokens are those of ECMA-262 edition 5.1, section 7, and trees those of its sections 11 to 14, as far as this
-//! profile has them. A tree is seen as data of specs/Tree.antt, without pointers. It stands on texts and whole numbers.
+//! profile has them. A tree is seen as data of specs/Tree.antt, without pointers. It stands on texts,
+//! whole numbers and the reader of patterns.
 #![tactic(auto)]
 
 mod bound;

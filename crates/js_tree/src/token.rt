@@ -1,5 +1,6 @@
 // The tokens of scripts.
 use crate::{Place, Sign};
+use js_pattern_reader::PatternLiteral;
 use utf16_text::Text;
 use whole_number::Whole;
 
@@ -12,6 +13,8 @@ pub enum TokenKind {
     Number(Whole),
     /// A text literal, by its value.
     Text(Text),
+    /// A pattern literal. Its body is kept in ASCII.
+    Pattern(PatternLiteral),
     Sign(Sign),
 }
 

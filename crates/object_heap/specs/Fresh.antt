@@ -27,6 +27,7 @@ built_in_number built_in.ErrorPrototype = 7
 built_in_number built_in.TypeErrorPrototype = 8
 built_in_number built_in.RangeErrorPrototype = 9
 built_in_number built_in.ReferenceErrorPrototype = 10
+built_in_number built_in.PatternPrototype = 11
 
 -- a row of the table as the constant shows it
 abbrev pub RowShown : Type 0
@@ -93,4 +94,4 @@ constructors = map object_shown CONSTRUCTORS.now
 
 -- no cell and no text is counted in it
 abbrev pub fresh_heap : HeapView
-fresh_heap = record { objects = built_in_objects; scopes = fresh_scope 0 None ∷ []; cells = 0; units = 0 }
+fresh_heap = record { objects = built_in_objects; scopes = fresh_scope 0 None ∷ []; literals = []; cells = 0; units = 0 }

@@ -1,21 +1,22 @@
 -- The heap of a run: what each call makes of it (ECMA-262 5.1, sections 8.12 and 10.2), and what it refuses.
-use Rattle.std.specs.Prelude.{ℕ, ◌+◌, ◌-◌, ◌<◌, pos, List, [], ◌∷◌, ◌++◌, reverse, Option, Some, None, IfSome, Bool, true, false, ◌==◌, if◌then◌else◌, slice_get, slice_set, length, nat_eq, nat_lt, nat_le, Result, Ok, Err}
+use Rattle.std.specs.Prelude.{ℕ, ◌+◌, ◌-◌, ◌<◌, pos, codes, List, [], ◌∷◌, ◌++◌, reverse, Option, Some, None, IfSome, Bool, true, false, ◌==◌, if◌then◌else◌, slice_get, slice_set, length, nat_eq, nat_lt, nat_le, Result, Ok, Err}
 use Rattle.std.specs.List.{list_any}
+use Rattle.js_pattern_reader.specs.Literal.{Literal, is_global, ignores_case, is_multiline}
 use Rattle.heap_values.specs.declared.answer.HeapAnswer.{HeapAnswer}
 use Rattle.heap_values.specs.declared.answer.HeapAnswer.TheVariants as answer
 use Rattle.heap_values.specs.declared.found.Found.{Found}
 use Rattle.heap_values.specs.declared.found.Found.TheVariants as found
 use Rattle.heap_values.specs.declared.ids.Kind.{Kind}
-use Rattle.heap_values.specs.declared.ids.Kind.TheVariants.{Plain}
+use Rattle.heap_values.specs.declared.ids.Kind.TheVariants.{Plain, Pattern}
 use Rattle.heap_values.specs.declared.ids.ObjectId.{ObjectId}
 use Rattle.heap_values.specs.declared.ids.ScopeId.{ScopeId}
 use Rattle.heap_values.specs.declared.property.Property.{Property}
 use Rattle.heap_values.specs.declared.value.Value.{Value}
-use Rattle.heap_values.specs.declared.value.Value.TheVariants.{Undefined, Number}
+use Rattle.heap_values.specs.declared.value.Value.TheVariants.{Undefined, Number, Text, Bool as Truth}
 use Rattle.heap_values.specs.Views.{ObjectView, ScopeView, HeapView}
 use Rattle.heap_objects.specs.Keys.{with_names}
 use Rattle.heap_objects.specs.declared.marks.Marks.{Marks}
-use Rattle.heap_objects.specs.Object.{empty_object, own_found, own_marks, is_length, grown_length_of, put_cost_of, object_with, can_delete, object_without, object_cut}
+use Rattle.heap_objects.specs.Object.{empty_object, own_found, own_marks, is_length, grown_length_of, put_cost_of, object_with, value_property, can_delete, object_without, object_cut}
 use Rattle.heap_elements.specs.Properties.{property_at, listed_names_of}
 use Rattle.heap_objects.specs.Scope.{fresh_scope, slot_in, scope_with}
 use Rattle.utf16_text.specs.declared.limits.TheConstants.{LONGEST_TEXT}
@@ -102,6 +103,39 @@ older_of (Some p) at = if nat_lt p.0 at then Some p else None
 abbrev pub made_of : HeapView → Kind → Option ObjectId → Result (ObjectId × HeapView) HeapAnswer
 made_of h kind prototype = if nat_le MOST_CELLS h.cells then Err answer.HeapFull
     else Ok (record { 0 = length h.objects }, record h { objects = h.objects ++ empty_object kind (older_of prototype (length h.objects)) ∷ []; cells = h.cells + 1 })
+
+-- the object with a property that is neither listed nor deletable
+abbrev pub with_hidden : List ℕ → Value → ObjectView → ObjectView
+with_hidden name v o = object_with o name (value_property v false false)
+
+-- an object for the pattern of this number, with what it says of its literal (15.10.7.1 to 15.10.7.4)
+abbrev pub pattern_object : ℕ → Literal → Option ObjectId → ObjectView
+pattern_object number l prototype =
+    with_hidden (codes "multiline") (Truth (is_multiline l))
+    (with_hidden (codes "ignoreCase") (Truth (ignores_case l))
+    (with_hidden (codes "global") (Truth (is_global l))
+    (with_hidden (codes "source") (Text l.body) (empty_object (Pattern number) prototype))))
+
+-- a new object for a pattern literal, in one cell, and the heap with it
+abbrev pub pattern_made_of : HeapView → Literal → Option ObjectId → Result (ObjectId × HeapView) HeapAnswer
+pattern_made_of h l prototype = if nat_le MOST_CELLS h.cells then Err answer.HeapFull
+    else Ok (
+      record { 0 = length h.objects },
+      record h {
+        objects = h.objects ++ pattern_object (length h.literals) l (older_of prototype (length h.objects)) ∷ [];
+        literals = h.literals ++ l ∷ [];
+        cells = h.cells + 1;
+      },
+    )
+
+-- the literal of an object of this kind, where it is a pattern's
+abbrev pub literal_of : HeapView → Kind → Option Literal
+literal_of h (Pattern number) = slice_get h.literals number
+literal_of h _ = None
+
+-- the literal of a pattern
+abbrev pub literal_at : HeapView → ObjectId → Option Literal
+literal_at h object = literal_of h (kind_in (object_at h object))
 
 -- a new scope, each slot undefined, and the heap with it
 abbrev pub scope_made_of : HeapView → ℕ → Option ScopeId → Result (ScopeId × HeapView) HeapAnswer

@@ -18,8 +18,8 @@ ghost use Rattle.object_heap.specs.Heap.{PrototypesAreOlder};
 use crate::table::{
     ARRAY_PROTOTYPE, BOOLEAN_PROTOTYPE, CONSTRUCTORS, ERROR_PROTOTYPE, FIRST_NATIVE,
     FUNCTION_PROTOTYPE, GLOBAL, NATIVES, NUMBER_PROTOTYPE, OBJECT_PROTOTYPE, OBJECTS_MORE,
-    PROTOTYPES, RANGE_ERROR_PROTOTYPE, REFERENCE_ERROR_PROTOTYPE, ROOTS, STRING_PROTOTYPE,
-    TYPE_ERROR_PROTOTYPE, TableObject,
+    PATTERN_PROTOTYPE, PROTOTYPES, RANGE_ERROR_PROTOTYPE, REFERENCE_ERROR_PROTOTYPE, ROOTS,
+    STRING_PROTOTYPE, TYPE_ERROR_PROTOTYPE, TableObject,
 };
 use heap_objects::Object;
 use heap_values::{BuiltIn, Kind, ObjectId};
@@ -42,6 +42,7 @@ pub(crate) fn object_of(which: BuiltIn) -> ObjectId
         BuiltIn::TypeErrorPrototype => TYPE_ERROR_PROTOTYPE,
         BuiltIn::RangeErrorPrototype => RANGE_ERROR_PROTOTYPE,
         BuiltIn::ReferenceErrorPrototype => REFERENCE_ERROR_PROTOTYPE,
+        BuiltIn::PatternPrototype => PATTERN_PROTOTYPE,
     }
 }
 

@@ -16,6 +16,7 @@ ghost use Rattle.std.specs.Prelude.{
   ◌∷◌,
   [],
   true,
+  option_map,
 };
 ghost use Rattle.std.specs.Fmt.{decimal};
 ghost use Rattle.heap_objects.specs.Object.{own_marks, property_after, value_property};
@@ -33,6 +34,8 @@ ghost use Rattle.object_heap.specs.Heap.{
   is_absent,
   older_of,
   made_of,
+  pattern_made_of,
+  literal_at,
   scope_made_of,
   stored,
   length_stored,
@@ -51,19 +54,23 @@ ghost use Rattle.object_heap.specs.declared.limits.TheConstants.{LONGEST_ARRAY, 
 
 use crate::fresh::{make_built_ins, object_of};
 use crate::limits::{LONGEST_ARRAY, MOST_CELLS, MOST_TEXT};
+use crate::pattern_names::PatternNames;
 use heap_elements::index_name;
 use heap_objects::{Marks, NameSet, Object, Scope};
 use heap_values::{BuiltIn, Content, Found, HeapAnswer, Kind, ObjectId, Property, ScopeId, Value};
+use js_pattern_reader::PatternLiteral;
 use std::alloc::Global;
 use std::marker::Model;
 use utf16_text::{LONGEST_TEXT, Memory, Text, TextList};
 
-/// The heap of a run, seen as its objects and scopes in the order of creation, the cells made and the units of text
-/// made.
+/// The heap of a run, seen as its objects, scopes and literals of patterns in the order of creation, the cells made and
+/// the units of text made.
 #[derive(Drop)]
 pub struct Heap {
     objects: Vec<Object>,
     scopes: Vec<Scope>,
+    literals: Vec<PatternLiteral>,
+    names: PatternNames,
     cells: u64,
     units: u64,
 }
@@ -71,14 +78,16 @@ pub struct Heap {
 impl Model for Heap {
     ghost use Rattle.std.specs.Prelude.{◌≤◌, ◌+◌, length};
     ghost use Rattle.heap_values.specs.Views.{HeapView};
+    ghost use Rattle.std.specs.Prelude.{◌≡◌};
     ghost use Rattle.object_heap.specs.Heap.{PrototypesAreOlder};
+    ghost use Rattle.object_heap.specs.PatternNames.{pattern_names};
     ghost use Rattle.object_heap.specs.declared.limits.TheConstants.{MOST_CELLS, MOST_TEXT};
 
     ghost Value = { HeapView };
 
-    ghost view = { λ h. record { objects = h.objects.items; scopes = h.scopes.items; cells = h.cells; units = h.units } };
+    ghost view = { λ h. record { objects = h.objects.items; scopes = h.scopes.items; literals = h.literals.items; cells = h.cells; units = h.units } };
 
-    ghost invariant = { λ h. (h.cells ≤ MOST_CELLS) × (h.units ≤ MOST_TEXT) × (length h.objects.items ≤ h.cells + 1000) × (length h.scopes.items ≤ h.cells + 1) × PrototypesAreOlder h.objects.items };
+    ghost invariant = { λ h. (h.cells ≤ MOST_CELLS) × (h.units ≤ MOST_TEXT) × (length h.objects.items ≤ h.cells + 1000) × (length h.scopes.items ≤ h.cells + 1) × (length h.literals.items ≤ h.cells) × (h.names ≡ pattern_names) × PrototypesAreOlder h.objects.items };
 }
 
 impl Heap {
@@ -92,6 +101,8 @@ impl Heap {
         Ok(Heap {
             objects,
             scopes,
+            literals: Vec::new(alloc),
+            names: PatternNames::new(alloc)?,
             cells: 0,
             units: 0,
         })
@@ -246,6 +257,41 @@ impl Heap {
         append_object(&mut self.objects, made)?;
         self.cells += 1;
         Ok(ObjectId(at as u32))
+    }
+
+    /// Makes the object of a pattern literal, with what it says of it, which is one cell (ECMA-262 5.1, section
+    /// 15.10.7). A prototype that isn't older is left out.
+    pub fn make_pattern(
+        &mut self,
+        alloc: Global,
+        literal: &PatternLiteral,
+        prototype: Option<ObjectId>,
+    ) -> Result<ObjectId, HeapAnswer>
+        ensures ok { IfOk result (λ id. pattern_made_of self.old literal.now prototype ≡ Ok (id, self.new)) }
+        ensures err { IfErr result (λ e. (e ≡ HeapAnswer.Memory) ⊎ (pattern_made_of self.old literal.now prototype ≡ Err e)) }
+        ensures unchanged { OnErr result (self.new ≡ self.old) }
+    {
+        if self.cells >= MOST_CELLS {
+            return Err(HeapAnswer::HeapFull);
+        }
+        let at = self.objects.len();
+        let number = self.literals.len() as u32;
+        let made = self
+            .names
+            .object(alloc, number, literal, older(prototype, at))?;
+        append_pattern(&mut self.objects, &mut self.literals, made, literal.copy()?)?;
+        self.cells += 1;
+        Ok(ObjectId(at as u32))
+    }
+
+    /// The literal of a pattern. None for any other object.
+    pub fn literal(&self, object: ObjectId) -> Option<&PatternLiteral>
+        ensures { option_map (λ literal. literal.now) result ≡ literal_at self.now object }
+    {
+        match self.kind(object) {
+            Kind::Pattern(number) => self.literals.get(number as usize),
+            _ => None,
+        }
     }
 
     /// Makes a scope of so many slots, each undefined. It is one cell and one for each slot.
@@ -548,6 +594,23 @@ fn older(prototype: Option<ObjectId>, at: usize) -> Option<ObjectId>
         None => None,
         Some(id) => { if (id.0 as usize) < at { Some(id) } else { None } }
     }
+}
+
+/// Adds the object of a pattern and its literal, or neither.
+fn append_pattern(
+    objects: &mut Vec<Object>,
+    literals: &mut Vec<PatternLiteral>,
+    made: Object,
+    literal: PatternLiteral,
+) -> Result<(), Memory>
+    ensures objects { OnOk result (objects.new.items ≡ objects.old.items ++ made ∷ []) }
+    ensures literals { OnOk result (literals.new.items ≡ literals.old.items ++ literal ∷ []) }
+    ensures unchanged { OnErr result ((objects.new.items ≡ objects.old.items) × (literals.new.items ≡ literals.old.items)) }
+{
+    literals.reserve(1)?;
+    objects.push(made)?;
+    literals.push(literal)?;
+    Ok(())
 }
 
 fn append_object(objects: &mut Vec<Object>, made: Object) -> Result<(), Memory>

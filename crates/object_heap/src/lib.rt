@@ -8,6 +8,7 @@
 mod fresh;
 mod heap;
 mod limits;
+mod pattern_names;
 mod table;
 
 pub use heap::Heap;

@@ -36,35 +36,37 @@ pub(crate) const RANGE_ERROR_PROTOTYPE: ObjectId = ObjectId(9);
 
 pub(crate) const REFERENCE_ERROR_PROTOTYPE: ObjectId = ObjectId(10);
 
-pub(crate) const MATH: ObjectId = ObjectId(11);
+pub(crate) const PATTERN_PROTOTYPE: ObjectId = ObjectId(11);
 
-pub(crate) const OBJECT: ObjectId = ObjectId(12);
+pub(crate) const MATH: ObjectId = ObjectId(12);
 
-pub(crate) const ARRAY: ObjectId = ObjectId(13);
+pub(crate) const OBJECT: ObjectId = ObjectId(13);
 
-pub(crate) const STRING: ObjectId = ObjectId(14);
+pub(crate) const ARRAY: ObjectId = ObjectId(14);
 
-pub(crate) const NUMBER: ObjectId = ObjectId(15);
+pub(crate) const STRING: ObjectId = ObjectId(15);
 
-pub(crate) const BOOLEAN: ObjectId = ObjectId(16);
+pub(crate) const NUMBER: ObjectId = ObjectId(16);
 
-pub(crate) const ERROR: ObjectId = ObjectId(17);
+pub(crate) const BOOLEAN: ObjectId = ObjectId(17);
 
-pub(crate) const TYPE_ERROR: ObjectId = ObjectId(18);
+pub(crate) const ERROR: ObjectId = ObjectId(18);
 
-pub(crate) const RANGE_ERROR: ObjectId = ObjectId(19);
+pub(crate) const TYPE_ERROR: ObjectId = ObjectId(19);
 
-pub(crate) const REFERENCE_ERROR: ObjectId = ObjectId(20);
+pub(crate) const RANGE_ERROR: ObjectId = ObjectId(20);
+
+pub(crate) const REFERENCE_ERROR: ObjectId = ObjectId(21);
 
 /// How many natives there are: their numbers are those below it.
-pub(crate) const NATIVES: u16 = 72;
+pub(crate) const NATIVES: u16 = 77;
 
 /// The first native that has no name above. From it on the natives stand behind the objects that have one, in the order
 /// of their numbers.
 pub(crate) const FIRST_NATIVE: u16 = 10;
 
 /// The object of such a native is the one of its number and so many more.
-pub(crate) const OBJECTS_MORE: u32 = 11;
+pub(crate) const OBJECTS_MORE: u32 = 12;
 
 /// What stands in a row whose value is the native of this number, from `FIRST_NATIVE` on.
 macro_rules! native {
@@ -109,30 +111,32 @@ pub(crate) const PROTOTYPES: &[TableObject] = &[
     (Blank { kind: Kind::Error, prototype: Some(ERROR_PROTOTYPE) }, RANGE_ERROR_PROTOTYPE_ROWS),
     // 10: `ReferenceError.prototype`.
     (Blank { kind: Kind::Error, prototype: Some(ERROR_PROTOTYPE) }, REFERENCE_ERROR_PROTOTYPE_ROWS),
+    // 11: `RegExp.prototype`.
+    (Blank { kind: Kind::Plain, prototype: Some(OBJECT_PROTOTYPE) }, PATTERN_PROTOTYPE_ROWS),
 ];
 
 /// `Math` and the constructors.
 #[rattlefmt::skip]
 pub(crate) const CONSTRUCTORS: &[TableObject] = &[
-    // 11: `Math`.
+    // 12: `Math`.
     (Blank { kind: Kind::Plain, prototype: Some(OBJECT_PROTOTYPE) }, MATH_ROWS),
-    // 12: `Object`.
+    // 13: `Object`.
     (Blank { kind: Kind::Native(1), prototype: Some(FUNCTION_PROTOTYPE) }, OBJECT_ROWS),
-    // 13: `Array`.
+    // 14: `Array`.
     (Blank { kind: Kind::Native(2), prototype: Some(FUNCTION_PROTOTYPE) }, ARRAY_ROWS),
-    // 14: `String`.
+    // 15: `String`.
     (Blank { kind: Kind::Native(3), prototype: Some(FUNCTION_PROTOTYPE) }, STRING_ROWS),
-    // 15: `Number`.
+    // 16: `Number`.
     (Blank { kind: Kind::Native(4), prototype: Some(FUNCTION_PROTOTYPE) }, NUMBER_ROWS),
-    // 16: `Boolean`.
+    // 17: `Boolean`.
     (Blank { kind: Kind::Native(5), prototype: Some(FUNCTION_PROTOTYPE) }, BOOLEAN_ROWS),
-    // 17: `Error`.
+    // 18: `Error`.
     (Blank { kind: Kind::Native(6), prototype: Some(FUNCTION_PROTOTYPE) }, ERROR_ROWS),
-    // 18: `TypeError`.
+    // 19: `TypeError`.
     (Blank { kind: Kind::Native(7), prototype: Some(FUNCTION_PROTOTYPE) }, TYPE_ERROR_ROWS),
-    // 19: `RangeError`.
+    // 20: `RangeError`.
     (Blank { kind: Kind::Native(8), prototype: Some(FUNCTION_PROTOTYPE) }, RANGE_ERROR_ROWS),
-    // 20: `ReferenceError`.
+    // 21: `ReferenceError`.
     (Blank { kind: Kind::Native(9), prototype: Some(FUNCTION_PROTOTYPE) }, REFERENCE_ERROR_ROWS),
 ];
 
@@ -252,8 +256,8 @@ const STRING_PROTOTYPE_ROWS: &[TableRow] = &[
     ("lastIndexOf", native!(38), "", true),
     ("split", native!(41), "", true),
     ("replace", native!(39), "", true),
-    ("match", LeftOut, "String.prototype.match", true),
-    ("search", LeftOut, "String.prototype.search", true),
+    ("match", native!(75), "", true),
+    ("search", native!(76), "", true),
     ("localeCompare", LeftOut, "String.prototype.localeCompare", true),
     ("toLocaleLowerCase", LeftOut, "String.prototype.toLocaleLowerCase", true),
     ("toLocaleUpperCase", LeftOut, "String.prototype.toLocaleUpperCase", true),
@@ -304,6 +308,14 @@ const REFERENCE_ERROR_PROTOTYPE_ROWS: &[TableRow] = &[
     ("constructor", Object(REFERENCE_ERROR), "", true),
     ("name", Text, "ReferenceError", true),
     ("message", Text, "", true),
+];
+
+#[rattlefmt::skip]
+const PATTERN_PROTOTYPE_ROWS: &[TableRow] = &[
+    ("constructor", LeftOut, "RegExp", true),
+    ("exec", native!(72), "", true),
+    ("test", native!(73), "", true),
+    ("toString", native!(74), "", true),
 ];
 
 #[rattlefmt::skip]

@@ -20,7 +20,8 @@ pub type Parts<'p> = Vec<Part<'p>>;
 pub fn put_expression<'p>(e: &'p Expression, parts: &mut Parts<'p>) -> Result<()> {
     match &e.node {
         ExpressionNode::Number(_) | ExpressionNode::Text(_) | ExpressionNode::True => {}
-        ExpressionNode::False | ExpressionNode::Null | ExpressionNode::This => {}
+        ExpressionNode::Pattern(_) | ExpressionNode::False | ExpressionNode::Null => {}
+        ExpressionNode::This => {}
         ExpressionNode::Name(x) => parts.push(Part::Name(x))?,
         ExpressionNode::Function(part) => parts.push(Part::Function(part))?,
         ExpressionNode::Array(all) => put_items(all.as_slice(), parts)?,

@@ -26,6 +26,7 @@ fn mentions(x: &Text, e: &Expression) -> bool
     match &e.node {
         ExpressionNode::Number(_) => false,
         ExpressionNode::Text(_) => false,
+        ExpressionNode::Pattern(_) => false,
         ExpressionNode::True => false,
         ExpressionNode::False => false,
         ExpressionNode::Null => false,

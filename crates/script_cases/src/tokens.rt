@@ -28,8 +28,8 @@ fn in_one_line(alloc: Global, tokens: &[Token]) -> Result<String> {
     Ok(line)
 }
 
-/// A token as `word NAME`, `number N`, `text [T]` or the sign's name, then its place, and `!` where a line ended before
-/// it.
+/// A token as `word NAME`, `number N`, `text [T]`, `pattern [BODY] [FLAGS]` or the sign's name, then its place, and `!`
+/// where a line ended before it.
 fn described(alloc: Global, token: &Token) -> Result<String> {
     let place = token.place;
     let mark = if token.after_line { "!" } else { "" };
@@ -41,6 +41,11 @@ fn described(alloc: Global, token: &Token) -> Result<String> {
         TokenKind::Text(text) => format!(in alloc;
             "text [{}]",
             written_text(alloc, text)?.as_str()
+        )?,
+        TokenKind::Pattern(literal) => format!(in alloc;
+            "pattern [{}] [{}]",
+            written_text(alloc, literal.body())?.as_str(),
+            written_text(alloc, literal.flags())?.as_str()
         )?,
         TokenKind::Sign(sign) => format!(in alloc; "{sign:?}")?,
     };

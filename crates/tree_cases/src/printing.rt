@@ -1,5 +1,6 @@
 // What trees are printed as that no script spells, and texts with escapes; script_cases prints all that is read. The
 // expected texts are written by hand from the rules in docs/DECISIONS.md, "The language".
+use js_pattern_reader::PatternLiteral;
 use js_printer::print;
 use js_tree::{
     Bound, BoundName, Expression, ExpressionNode, FunctionPart, Place, Script, Statement,
@@ -18,6 +19,13 @@ fn evaluated(alloc: Global, node: ExpressionNode) -> Result<Statement, Fail> {
         place: HERE,
         node: StatementNode::Expression(e),
     })
+}
+
+fn pattern(alloc: Global, body: &str, flags: &str) -> Result<ExpressionNode, Fail> {
+    let body = Text::from_str(alloc, body)?;
+    let flags = Text::from_str(alloc, flags)?;
+    let literal = PatternLiteral::read(alloc, body, flags).map_err(|_| "no pattern")?;
+    Ok(ExpressionNode::Pattern(literal))
 }
 
 fn declared(alloc: Global, name: &str, number: u32) -> Result<Statement, Fail> {
@@ -46,8 +54,10 @@ fn each_statement_is_a_line(rt: HostRuntime) -> Result<(), Fail> {
         evaluated(alloc, ExpressionNode::Text(text))?,
         evaluated(alloc, ExpressionNode::Function(FunctionPart::Numbered(7)))?,
         declared(alloc, "g", 0)?,
+        evaluated(alloc, pattern(alloc, "é*", "g")?)?,
     ]?;
-    let lines = "\"a \\\"\\\\\\u000a\\u00e9\" ;\n( function 7 ) ;\nfunction g 0\n";
+    let lines =
+        "\"a \\\"\\\\\\u000a\\u00e9\" ;\n( function 7 ) ;\nfunction g 0\n( /\\u00e9*/g ) ;\n";
     assert_eq!(rt; printed(alloc, all)?.as_str(), lines);
     Ok(())
 }

@@ -23,3 +23,6 @@ returns-else-is_named c = c.if-is_named.false ∙ sym (ap (λ k. fixed_by k (obj
 
 pub returns-in-Error : goal.returns-in-Error
 returns-in-Error c = sym (ap (λ k. fixed_by k (object_at c.args.heap.now c.args.object) c.args.name.now) (sym c.kind.ensures ∙ c.in-Error.is)) ∙ fixed (object_at c.args.heap.now c.args.object) c.args.name.now
+
+pub returns-in-Pattern : goal.returns-in-Pattern
+returns-in-Pattern c = c.tells_literal.ensures ∙ sym (ap (λ k. fixed_by k (object_at c.args.heap.now c.args.object) c.args.name.now) (sym c.kind.ensures ∙ c.in-Pattern.is)) ∙ fixed (object_at c.args.heap.now c.args.object) c.args.name.now

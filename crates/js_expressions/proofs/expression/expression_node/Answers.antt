@@ -1,10 +1,13 @@
 use Rattle.std.proofs.Common.{sym, ap, ◌∙◌}
 use Rattle.js_tree.specs.View.{expression_of}
-use Rattle.js_expressions.proofs.Nodes.{text_value, array_value, object_value, suffixed_value}
+use Rattle.js_expressions.proofs.Nodes.{text_value, pattern_value, array_value, object_value, suffixed_value}
 use Rattle.js_expressions.proofs.expression.expression_node.Goals as goal
 
 pub returns-in-Text : goal.returns-in-Text
 returns-in-Text c = text_value c.args.machine.now c.args.e.now c.e.inside.place _ _ _ (ap (expression_of c.e.inside.place) (sym c.in-Text.is) ∙ c.e.view_is) c.text_literal.ensures
+
+pub returns-in-Pattern : goal.returns-in-Pattern
+returns-in-Pattern c = pattern_value c.args.machine.now c.args.e.now c.e.inside.place _ _ _ (ap (expression_of c.e.inside.place) (sym c.in-Pattern.is) ∙ c.e.view_is) c.pattern_literal.ensures
 
 pub returns-in-Array : goal.returns-in-Array
 returns-in-Array c = array_value c.args.machine.now c.args.e.now c.e.inside.place _ _ _ (ap (expression_of c.e.inside.place) (sym c.in-Array.is) ∙ c.e.view_is)

@@ -38,5 +38,8 @@ returns-in-ErrorMessage c = rw c.in-ErrorMessage.is c.error_message.ensures
 pub returns-in-Handed : goal.returns-in-Handed
 returns-in-Handed c = rw c.in-Handed.is c.value_converted.ensures
 
+pub returns-in-Begin : goal.returns-in-Begin
+returns-in-Begin c = rw c.in-Begin.is c.begin_converted.ensures
+
 pub returns : goal.returns
 returns c = rw c.in-Element.is c.element_converted.ensures

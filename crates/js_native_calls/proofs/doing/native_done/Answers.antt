@@ -6,6 +6,9 @@ returns-in-Plain c = rw c.in-Plain.is (rw (c.as_slice.ensures, c.as_slice-given.
 pub returns-in-Pac : goal.returns-in-Pac
 returns-in-Pac c = rw c.in-Pac.is c.host_call.ensures
 
+pub returns-in-Pattern : goal.returns-in-Pattern
+returns-in-Pattern c = rw c.in-Pattern.is (rw c.as_slice-given.ensures at c.pattern_done.ensures)
+
 pub returns-in-ErrorToString : goal.returns-in-ErrorToString
 returns-in-ErrorToString c = rw c.in-ErrorToString.is (rw c.as_slice-in-ErrorToString.ensures at c.error_done.ensures)
 

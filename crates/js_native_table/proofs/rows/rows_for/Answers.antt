@@ -12,6 +12,9 @@ unfolding natives
 returns-in-Pac c =
     subst (λ (n : Native). row_among (drop 13 natives) n ≡ native_row n) (sym c.in-Pac.is) (from_pac c.in-Pac.field-0)
 
+pub returns-in-Pattern : goal.returns-in-Pattern
+returns-in-Pattern c = rw c.in-Pattern.is c.rows_for_pattern.ensures
+
 pub returns-in-ErrorToString : goal.returns-in-ErrorToString
 unfolding natives
 returns-in-ErrorToString c =

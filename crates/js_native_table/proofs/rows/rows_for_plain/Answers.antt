@@ -2,7 +2,7 @@ use Rattle.std.proofs.Common.{◌≡◌, List, drop, ap, sym, subst}
 use Rattle.js_evaluation.specs.declared.native.Native.TheVariants as native
 use Rattle.js_evaluation.specs.declared.native.PlainNative.{PlainNative}
 use Rattle.js_evaluation.specs.NativeTable.{Row, natives, native_row, row_among}
-use Rattle.js_native_table.proofs.FoundRows.{from_text, from_number, from_array}
+use Rattle.js_native_table.proofs.FoundRows.{from_text, from_number, from_array, from_pattern_text}
 use Rattle.js_native_table.proofs.rows.rows_for_plain.Goals as goal
 
 pub returns-in-TextMethod : goal.returns-in-TextMethod
@@ -22,6 +22,12 @@ unfolding natives
 returns-in-ArrayMethod c =
     subst (λ (n : PlainNative). row_among (drop 57 natives) (native.Plain n) ≡ native_row (native.Plain n))
     (sym c.in-ArrayMethod.is) (from_array c.in-ArrayMethod.field-0)
+
+pub returns-in-PatternToString : goal.returns-in-PatternToString
+unfolding natives
+returns-in-PatternToString c =
+    subst (λ (n : PlainNative). row_among (drop 74 natives) (native.Plain n) ≡ native_row (native.Plain n))
+    (sym c.in-PatternToString.is) from_pattern_text
 
 pub returns-in_default : goal.returns-in_default
 unfolding native_row

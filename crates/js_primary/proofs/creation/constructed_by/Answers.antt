@@ -14,3 +14,6 @@ returns-in-Array c = rw c.in-Array.is c.type_error-in-Array.ensures
 
 pub returns-in-Error : goal.returns-in-Error
 returns-in-Error c = rw c.in-Error.is c.type_error-in-Error.ensures
+
+pub returns-in-Pattern : goal.returns-in-Pattern
+returns-in-Pattern c = rw c.in-Pattern.is c.type_error-in-Pattern.ensures

@@ -1,0 +1,4 @@
+pub mod Pieces
+pub mod Searches
+pub mod States
+pub mod Works

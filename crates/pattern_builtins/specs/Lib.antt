@@ -1,0 +1,9 @@
+pub mod Costs
+pub mod Examples
+pub mod Laws
+pub mod Matches
+pub mod Pieces
+pub mod Putting
+pub mod Replacing
+pub mod Skipping
+pub mod Splitting
