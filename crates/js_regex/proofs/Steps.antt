@@ -1,5 +1,5 @@
 -- The steps of a match, over what its stacks stand for.
-use Rattle.std.proofs.Common.{◌≡◌, ℕ, ◌-◌, ◌<◌, Bool, true, false, ⊎_elim, List, [], ◌∷◌, set, Option, Some, ap, sym, ◌∙◌, Bor}
+use Rattle.std.proofs.Common.{◌≡◌, ℕ, ◌-◌, ◌<◌, Bool, true, false, ⊎_elim, List, [], ◌∷◌, set, Option, Some, ap, sym, ◌∙◌, arith, Bor}
 use Rattle.std.specs.Prelude.{slice_get}
 use Rattle.js_pattern.specs.declared.span.Span.{Span}
 use Rattle.js_pattern.specs.declared.bounds.Bounds.{Bounds}
@@ -14,7 +14,7 @@ use Rattle.js_regex.specs.declared.step.Pending.TheVariants as pending
 use Rattle.js_regex.specs.declared.step.Undo.{Undo}
 use Rattle.js_regex.specs.declared.step.Undo.TheVariants as undo
 use Rattle.js_regex.specs.declared.state.State.{State}
-use Rattle.js_regex.specs.Stacks.{after, back_from}
+use Rattle.js_regex.specs.Stacks.{after, back_from, leaving}
 use Rattle.js_regex.specs.Moves.{here, back_of, Logs, Pops, Pushes, Saves, Sets}
 use Rattle.js_regex.proofs.Lists.{set_back}
 
@@ -92,11 +92,13 @@ may_goes s x b m greedy e h g =
     ∙ ap (λ o. or_else o (back_of s m)) (sym (repeat_may s x b (after s m.pending) (here m) e h))
 
 pub greedy_goes : (s : Subject) (x : Tree) (b : Bounds) (m : State) (us : List Undo)
-    → us ≡ undo.Leave m.place ∷ m.undo → is_none_left b.most ≡ false → b.least ≡ 0 → b.greedy ≡ true
+    → us ≡ undo.Leave m.place m.place ∷ m.undo → is_none_left b.most ≡ false → b.least ≡ 0 → b.greedy ≡ true
     → or_else (taking s x b (after s m.pending) (here m)) (back_from s us m.pending m.groups)
     ≡ or_else (offer s (repeat x b) (after s m.pending) (here m)) (back_of s m)
 greedy_goes s x b m us u e h g =
+    let none : m.place - m.place ≡ 0 = omega arith in
     ap (λ ws. or_else (taking s x b (after s m.pending) (here m)) (back_from s ws m.pending m.groups)) u
+    ∙ ap (λ n. or_else (taking s x b (after s m.pending) (here m)) (or_else (leaving (after s m.pending) m.groups m.place n) (back_of s m))) none
     ∙ sym (or_else_assoc (taking s x b (after s m.pending) (here m)) (after s m.pending (here m)) (back_of s m))
     ∙ may_goes s x b m true e h g
 

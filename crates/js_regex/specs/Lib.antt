@@ -1,6 +1,9 @@
 pub mod Examples
+pub mod Failing
 pub mod Finds
 pub mod Moves
 pub mod Runs
+pub mod Singles
 pub mod Stacks
 pub mod Subjects
+pub mod Turns

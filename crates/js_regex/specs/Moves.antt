@@ -1,5 +1,5 @@
 -- What the steps of a match keep: how it ends from where it stands.
-use Rattle.std.specs.Prelude.{◌≡◌, ◌<◌, ◌⊎◌, ℕ, List, [], ◌∷◌, Option, Some, None}
+use Rattle.std.specs.Prelude.{◌≡◌, ◌<◌, ◌-◌, ◌⊎◌, ℕ, List, [], ◌∷◌, Option, Some, None}
 use Rattle.js_pattern.specs.declared.span.Span.{Span}
 use Rattle.js_pattern.specs.Tree.{Tree, Trees, repeat, trees_of}
 use Rattle.js_pattern.specs.Place.{Subject, At, closed}
@@ -7,10 +7,11 @@ use Rattle.js_pattern.specs.Repeats.{smaller}
 use Rattle.js_pattern.specs.Walk.{Outcome, After, fails, found, counted, or_else, marked, offer, row_walk}
 use Rattle.js_regex.specs.declared.step.Pending.{Pending}
 use Rattle.js_regex.specs.declared.step.Undo.{Undo}
+use Rattle.js_regex.specs.declared.step.Undo.TheVariants as undo
 use Rattle.js_regex.specs.declared.step.Step.{Step}
 use Rattle.js_regex.specs.declared.step.Step.TheVariants as step
 use Rattle.js_regex.specs.declared.state.State.{State}
-use Rattle.js_regex.specs.Stacks.{after, back_from}
+use Rattle.js_regex.specs.Stacks.{after, back_from, leaving, noted}
 
 -- the place and the groups
 abbrev pub here : State → At
@@ -26,6 +27,8 @@ offer_of s m (step.Part x xs) = offer s x.now (row_walk s (trees_of xs.now) (aft
 offer_of s m (step.Repeat x b) = offer s (repeat x.now b) (after s m.pending) (here m)
 offer_of s m (step.Close n from) = after s m.pending (closed n from (here m))
 offer_of s m (step.Turn x b from) = marked s b.least from (λ at. counted (offer s (repeat x.now (smaller b)) (after s m.pending) at)) (here m)
+offer_of s m (step.Turns x b) = offer s (repeat x.now b) (after s m.pending) (here m)
+offer_of s m (step.Leave from last) = leaving (after s m.pending) m.groups last (last - from)
 offer_of s m (step.On xs) = row_walk s (trees_of xs.now) (after s m.pending) (here m)
 offer_of s m step.Back = fails
 
@@ -35,6 +38,8 @@ counted_by (step.Part x xs) o = counted o
 counted_by (step.Repeat x b) o = counted o
 counted_by (step.Close n from) o = counted o
 counted_by (step.Turn x b from) o = counted o
+counted_by (step.Turns x b) o = o
+counted_by (step.Leave from last) o = o
 counted_by (step.On xs) o = o
 counted_by step.Back o = o
 
@@ -42,14 +47,16 @@ counted_by step.Back o = o
 abbrev pub outcome_of : Subject → State → Step → Outcome
 outcome_of s m next = or_else (counted_by next (offer_of s m next)) (back_of s m)
 
--- steps that take no fuel: at most two follow one another
+-- steps that take no fuel: at most three follow one another
 abbrev pub weight : Step → ℕ
 weight (step.Part x xs) = 0
 weight (step.Repeat x b) = 0
 weight (step.Close n from) = 0
 weight (step.Turn x b from) = 0
+weight (step.Turns x b) = 3
+weight (step.Leave from last) = 2
 weight (step.On xs) = 1
-weight step.Back = 2
+weight step.Back = 3
 
 -- the match ends with this outcome, and where that fails as it does if it goes back
 abbrev pub EndsAs : Outcome → Subject → State → State → Step → Type 0
@@ -84,11 +91,15 @@ TakesNext xs m (Some next) n = GoesOn (λ s. row_walk s xs) m n next × (weight 
 -- the match goes on where it goes back to, or nothing is left to be tried
 abbrev pub GoesBack : State → Option Step → State → Type 0
 GoesBack m None n = (s : Subject) → back_of s m ≡ fails
-GoesBack m (Some next) n = ((s : Subject) → outcome_of s n next ≡ back_of s m) × (weight next < 2)
+GoesBack m (Some next) n = ((s : Subject) → outcome_of s n next ≡ back_of s m) × (weight next < 3)
 
 -- a change is noted, or nothing is left to be tried
 abbrev pub Logs : Undo → List Undo → List Undo → Type 0
 Logs u us vs = (vs ≡ u ∷ us) ⊎ ((us ≡ []) × (vs ≡ []))
+
+-- that this was taken from the top is noted, or that it was put there needs no note any more
+abbrev pub LogsPopped : Pending → List Undo → List Undo → Type 0
+LogsPopped p us vs = Logs (noted p) us vs ⊎ (us ≡ undo.Pushed ∷ vs)
 
 -- ---- changes of a state that are undone where the match goes back; all else stays as it was
 

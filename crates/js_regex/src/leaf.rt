@@ -10,20 +10,47 @@ ghost use Rattle.js_pattern.specs.Leaves.{
   is_asserted,
   is_boundary,
 };
+ghost use Rattle.js_regex.specs.Singles.{is_single};
 
 use crate::groups::Groups;
 use crate::matcher::Matcher;
 use crate::units::{
     begins, in_class, is_break_at, is_break_before, is_word_at, is_word_before, part, same_unit,
 };
-use js_pattern::{Assertion, Class, Span};
+use js_pattern::{Assertion, Class, Node, NodeKind, Span};
 use utf16_text::is_line_terminator;
 
 impl<'p> Matcher<'p> {
+    ghost use Rattle.js_regex.specs.Singles.{behind_leaf, behind_single};
     ghost use Rattle.js_regex.specs.Subjects.{subject_in};
 
+    /// The place behind a part that takes one unit. None where it doesn't match, or takes none.
+    pub(crate) fn single(self, node: &Node, place: usize) -> Option<usize>
+        ensures { result ≡ behind_single (subject_in self.entry) node.now place }
+    {
+        match &node.kind {
+            NodeKind::Unit(unit) => self.unit(*unit, place),
+            NodeKind::Any => self.any(place),
+            NodeKind::Class(class) => self.class(class, place),
+            _ => None,
+        }
+    }
+
+    /// The place behind a part that takes one unit or is an assertion, if it matches. None where it is another.
+    pub(crate) fn leaf(self, node: &Node, place: usize) -> Option<Option<usize>>
+        ensures { result ≡ behind_leaf (subject_in self.entry) node.now place }
+    {
+        match &node.kind {
+            NodeKind::Unit(_) | NodeKind::Any | NodeKind::Class(_) => {
+                Some(self.single(node, place))
+            }
+            NodeKind::Assertion(assertion) => Some(self.assertion(*assertion, place)),
+            _ => None,
+        }
+    }
+
     /// The place behind a unit.
-    pub(crate) fn unit(self, unit: u16, place: usize) -> Option<usize>
+    fn unit(self, unit: u16, place: usize) -> Option<usize>
         ensures { result ≡ behind_unit (subject_in self.entry) unit place }
     {
         match self.text.get(place) {
@@ -33,7 +60,7 @@ impl<'p> Matcher<'p> {
     }
 
     /// The place behind any unit but a line terminator.
-    pub(crate) fn any(self, place: usize) -> Option<usize>
+    fn any(self, place: usize) -> Option<usize>
         ensures { result ≡ behind_any (subject_in self.entry) place }
     {
         match self.text.get(place) {
@@ -43,7 +70,8 @@ impl<'p> Matcher<'p> {
     }
 
     /// The place behind a unit of a class.
-    pub(crate) fn class(self, class: &Class, place: usize) -> Option<usize>
+    #[inline(never)]
+    fn class(self, class: &Class, place: usize) -> Option<usize>
         ensures { result ≡ behind_class (subject_in self.entry) class.now place }
     {
         match self.text.get(place) {
@@ -110,4 +138,14 @@ impl<'p> Matcher<'p> {
             None
         }
     }
+}
+
+/// Whether a part takes one unit, whatever it stands in.
+pub(crate) fn takes_one_unit(node: &Node) -> bool
+    ensures { result ≡ is_single node.now }
+{
+    matches!(
+        node.kind,
+        NodeKind::Unit(_) | NodeKind::Any | NodeKind::Class(_)
+    )
 }

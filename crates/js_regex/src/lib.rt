@@ -7,6 +7,8 @@
 #![tactic(auto)]
 
 mod answer;
+mod failing;
+mod fuel;
 mod groups;
 mod leaf;
 mod matcher;
@@ -14,6 +16,7 @@ mod search;
 mod stack;
 mod state;
 mod step;
+mod turns;
 mod units;
 
 pub use answer::FindAnswer;

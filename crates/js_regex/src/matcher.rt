@@ -5,6 +5,7 @@ ghost use Rattle.js_pattern.specs.Search.{start};
 ghost use Rattle.js_pattern.specs.Walk.{found, walk};
 
 use crate::FindAnswer;
+use crate::fuel::spend;
 use crate::state::State;
 use crate::step::Step;
 use js_pattern::{Bounds, Flags, Node, NodeKind};
@@ -50,9 +51,9 @@ impl<'p> Matcher<'p> {
     {
         let place = state.place;
         match &node.kind {
-            NodeKind::Unit(unit) => Ok(state.forward(self.unit(*unit, place), others)),
-            NodeKind::Any => Ok(state.forward(self.any(place), others)),
-            NodeKind::Class(class) => Ok(state.forward(self.class(class, place), others)),
+            NodeKind::Unit(_) | NodeKind::Any | NodeKind::Class(_) => {
+                Ok(state.forward(self.single(node, place), others))
+            }
             NodeKind::Assertion(assertion) => {
                 Ok(state.forward(self.assertion(*assertion, place), others))
             }
@@ -73,10 +74,10 @@ impl<'p> Matcher<'p> {
     {
         match next {
             Step::Part(node, others) => self.part(state, node, others),
-            Step::Repeat(body, bounds) => state.repeat(body, bounds),
+            Step::Repeat(body, bounds) => Ok(Step::Turns(body, bounds)),
             Step::Close(number, from) => state.close(number, from),
             Step::Turn(body, bounds, from) => Ok(self.turn(state, body, bounds, from)),
-            Step::On(_) | Step::Back => Ok(next),
+            Step::Turns(..) | Step::Leave(..) | Step::On(_) | Step::Back => Ok(next),
         }
     }
 
@@ -96,11 +97,10 @@ impl<'p> Matcher<'p> {
                     None => return Ok(false),
                     Some(next) => now = next,
                 },
+                Step::Turns(body, bounds) => now = self.turns(state, body, bounds, fuel)?,
+                Step::Leave(from, last) => now = self.leave(state, from, last, fuel)?,
                 next => {
-                    if *fuel == 0 {
-                        return Err(FindAnswer::Spent);
-                    }
-                    *fuel -= 1;
+                    spend(fuel, 1)?;
                     now = self.take_up(state, next)?;
                 }
             }
@@ -118,6 +118,10 @@ impl<'p> Matcher<'p> {
     ) -> Result<bool, FindAnswer>
         ensures { Ran (walk (subject_in self.entry) root.entry.now found (start count place)) fuel.old result fuel.new state.new }
     {
+        if let Some(cost) = self.whole_fails(root, place) {
+            spend(fuel, cost)?;
+            return Ok(false);
+        }
         match state.start(count, place) {
             Err(_) => Err(FindAnswer::Memory),
             Ok(()) => self.run(state, root, fuel),

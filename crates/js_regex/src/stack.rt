@@ -1,5 +1,5 @@
 // Stacks of anything.
-ghost use Rattle.std.specs.Prelude.{◌≡◌, ◌∷◌, [], ◌↔◌, IsTrue, MatchOption, OnOk};
+ghost use Rattle.std.specs.Prelude.{◌≡◌, ◌∷◌, [], ◌↔◌, IsTrue, MatchOption, OnOk, drop};
 
 use std::alloc::Global;
 use std::marker::Model;
@@ -38,6 +38,13 @@ impl<T: Drop> Stack<T> {
         ensures { IsTrue result ↔ (self.now ≡ []) }
     {
         self.items.is_empty()
+    }
+
+    /// The item on top. None exactly where there is none.
+    pub(crate) fn top(&self) -> Option<&T>
+        ensures { MatchOption result (self.now ≡ []) (λ item. self.now ≡ item.now ∷ drop 1 self.now) }
+    {
+        self.items.last()
     }
 
     /// Puts an item on top.

@@ -1,5 +1,5 @@
 // Where a match stands, and how its parts change that.
-ghost use Rattle.std.specs.Prelude.{◌≡◌, ◌-◌, [], ◌∷◌, IfOk, MatchOption, None, OnOk, slice_set};
+ghost use Rattle.std.specs.Prelude.{◌≡◌, ◌≤◌, ◌-◌, [], ◌∷◌, IfOk, MatchOption, None, OnOk, slice_set};
 ghost use Rattle.js_pattern.specs.Place.{closed, unset_from};
 ghost use Rattle.js_pattern.specs.Search.{start};
 ghost use Rattle.js_pattern.specs.Tree.{a_tree, alternatives, group, repeat, row, trees_of};
@@ -22,7 +22,8 @@ pub(crate) struct State<'p> {
     pub(crate) undo: Stack<Undo<'p>>,
 }
 
-ghost use Rattle.js_regex.specs.Moves.{Logs};
+ghost use Rattle.js_regex.specs.Moves.{Logs, LogsPopped};
+ghost use Rattle.js_regex.specs.Stacks.{noted};
 
 // While nothing is left to be tried, a change needs no note: nobody goes back to before it.
 fn log<'p>(undo: &mut Stack<Undo<'p>>, change: Undo<'p>) -> Result<(), Memory>
@@ -32,6 +33,30 @@ fn log<'p>(undo: &mut Stack<Undo<'p>>, change: Undo<'p>) -> Result<(), Memory>
         return Ok(());
     }
     undo.push(change)
+}
+
+fn note<'p>(top: Pending<'p>) -> Undo<'p>
+    ensures { result ≡ noted top.entry }
+{
+    match top {
+        Pending::Terms(first, others) => Undo::Terms(first, others),
+        Pending::Close(number, from) => Undo::Close(number, from),
+        Pending::Turn(body, bounds, from) => Undo::Turn(body, bounds, from),
+    }
+}
+
+// What was put on top since there is something to be tried needs no note when it is taken from there.
+fn log_popped<'p>(undo: &mut Stack<Undo<'p>>, top: Pending<'p>) -> Result<(), Memory>
+    ensures { OnOk result (LogsPopped top.entry undo.old undo.new) }
+{
+    match undo.top() {
+        None => Ok(()),
+        Some(Undo::Pushed) => {
+            let _ = undo.pop();
+            Ok(())
+        }
+        Some(_) => undo.push(note(top)),
+    }
 }
 
 impl<'p> State<'p> {
@@ -46,8 +71,13 @@ impl<'p> State<'p> {
       Begins,
       TakesNext,
       TakesUp,
+      EndsAs,
       here,
+      back_of,
+      weight,
     };
+    ghost use Rattle.js_pattern.specs.Place.{Subject};
+    ghost use Rattle.js_regex.specs.Stacks.{after, leaving};
 
     /// A state at the front of a text, with nothing to be matched. It takes no memory.
     pub(crate) fn new(alloc: Global) -> State<'p> {
@@ -84,7 +114,7 @@ impl<'p> State<'p> {
         match self.pending.pop() {
             None => Ok(None),
             Some(top) => {
-                log(&mut self.undo, Undo::Popped(top))?;
+                log_popped(&mut self.undo, top)?;
                 Ok(Some(top))
             }
         }
@@ -241,9 +271,10 @@ impl<'p> State<'p> {
         Ok(Step::Part(body, &[]))
     }
 
-    /// Takes up a Repeat with nothing behind it in its row.
+    /// Takes a turn of a Repeat that was taken up, or leaves it.
     pub(crate) fn repeat(&mut self, body: &'p Node, bounds: Bounds) -> Result<Step<'p>, Memory>
-        ensures { IfOk result (GoesOn (λ s. offer s (repeat body.entry.now bounds)) self.old self.new) }
+        ensures light { IfOk result (λ next. weight next ≤ 1) }
+        ensures goes { IfOk result (GoesOn (λ s. offer s (repeat body.entry.now bounds)) self.old self.new) }
     {
         if bounds.is_spent() {
             return Ok(Step::On(&[]));
@@ -252,7 +283,7 @@ impl<'p> State<'p> {
             return self.take(body, bounds);
         }
         if bounds.greedy {
-            self.undo.push(Undo::Leave(self.place))?;
+            self.undo.push(Undo::Leave(self.place, self.place))?;
             return self.take(body, bounds);
         }
         self.undo.push(Undo::Take(self.place, body, bounds))?;
@@ -269,7 +300,19 @@ impl<'p> State<'p> {
         ensures { IfOk result (TakesUp (repeat body.entry.now bounds) (trees_of others.entry.now) self.old self.new) }
     {
         self.save(others)?;
-        self.repeat(body, bounds)
+        Ok(Step::Turns(body, bounds))
+    }
+
+    /// Leaves a Repeat from a place, and notes that it can be left from those before it down to another.
+    pub(crate) fn leave(&mut self, from: usize, place: usize) -> Result<Step<'p>, Memory>
+        ensures goes { IfOk result (λ next. (s : Subject) → EndsAs (leaving (after s self.old.pending) self.old.groups place (place - from)) s self.old self.new next) }
+        ensures light { IfOk result (λ next. weight next ≡ 1) }
+    {
+        if from < place {
+            self.undo.push(Undo::Leave(from, place - 1))?;
+        }
+        self.place = place;
+        Ok(Step::On(&[]))
     }
 
     /// Goes back to what is tried next. None where nothing is left to be tried.
@@ -281,16 +324,19 @@ impl<'p> State<'p> {
                 Undo::Pushed => {
                     let _ = self.pending.pop();
                 }
-                Undo::Popped(top) => self.pending.push(top)?,
+                Undo::Terms(first, others) => {
+                    self.pending.push(Pending::Terms(first, others))?;
+                }
+                Undo::Close(number, from) => self.pending.push(Pending::Close(number, from))?,
+                Undo::Turn(body, bounds, from) => {
+                    self.pending.push(Pending::Turn(body, bounds, from))?;
+                }
                 Undo::Group(number, old) => self.groups.set(number, old),
                 Undo::Alternatives(place, first, others) => {
                     self.place = place;
                     return Ok(Some(self.preferred(first, others)?));
                 }
-                Undo::Leave(place) => {
-                    self.place = place;
-                    return Ok(Some(Step::On(&[])));
-                }
+                Undo::Leave(from, last) => return Ok(Some(Step::Leave(from, last))),
                 Undo::Take(place, body, bounds) => {
                     self.place = place;
                     return Ok(Some(self.take(body, bounds)?));

@@ -17,14 +17,17 @@ pub(crate) enum Pending<'p> {
 pub(crate) enum Undo<'p> {
     /// Something was put on top of what is pending.
     Pushed,
-    /// This was taken from the top of what is pending.
-    Popped(Pending<'p>),
+    /// This was taken from the top of what is pending: as in `Pending`, whose variants stand here for a note that is
+    /// eight bytes smaller.
+    Terms(&'p Node, &'p [Node]),
+    Close(Option<u8>, usize),
+    Turn(&'p Node, Bounds, usize),
     /// A group was set; this it was before.
     Group(u8, Option<Span>),
     /// From this place these alternatives are left: one, and those behind it.
     Alternatives(usize, &'p Node, &'p [Node]),
-    /// From this place a Repeat can be left.
-    Leave(usize),
+    /// A Repeat can be left from the second of these places, and where that fails from each before it down to the first.
+    Leave(usize, usize),
     /// From this place a Repeat can take a turn.
     Take(usize, &'p Node, Bounds),
 }
@@ -40,6 +43,10 @@ pub(crate) enum Step<'p> {
     Close(Option<u8>, usize),
     /// The mark behind a turn is taken up.
     Turn(&'p Node, Bounds, usize),
+    /// A Repeat that was taken up takes its turns.
+    Turns(&'p Node, Bounds),
+    /// A Repeat is left from the second of these places, or from the next before it down to the first.
+    Leave(usize, usize),
     /// It goes on with these terms, and then with what is pending.
     On(&'p [Node]),
     /// It goes back.

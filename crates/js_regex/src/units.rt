@@ -1,5 +1,5 @@
 // Units, classes and words of a text.
-ghost use Rattle.std.specs.Prelude.{◌≡◌, ◌-◌, drop, slice_get, take};
+ghost use Rattle.std.specs.Prelude.{◌≡◌, ◌-◌, ◌||◌, drop, slice_get, take};
 ghost use Rattle.utf16_text.specs.Letters.{is_break_unit, lower_unit, upper_unit};
 ghost use Rattle.js_pattern.specs.Leaves.{
   begins,
@@ -7,13 +7,14 @@ ghost use Rattle.js_pattern.specs.Leaves.{
   in_class,
   in_item,
   in_items,
+  in_set,
   is_some_such,
   is_word,
   same_unit,
   unit_before,
 };
 
-use js_pattern::{Class, ClassItem, is_word};
+use js_pattern::{Class, ClassItem, Set, is_word};
 use utf16_text::is_line_terminator;
 
 fn lower_case(unit: u16) -> u16
@@ -47,12 +48,20 @@ pub(crate) fn same_unit(ignore_case: bool, unit: u16, other: u16) -> bool
     }
 }
 
+// Apart from the loop over a class, which would ask of each unit beforehand what sets it is in.
+#[inline(never)]
+fn in_set(set: Set, unit: u16) -> bool
+    ensures { result ≡ in_set set unit }
+{
+    set.has(unit)
+}
+
 fn in_item(item: ClassItem, unit: u16) -> bool
     ensures { result ≡ in_item item unit }
 {
     match item {
         ClassItem::Range(first, last) => first <= unit && unit <= last,
-        ClassItem::Set(set) => set.has(unit),
+        ClassItem::Set(set) => in_set(set, unit),
     }
 }
 
@@ -69,11 +78,17 @@ fn in_items(items: &[ClassItem], unit: u16) -> bool
     false
 }
 
+#[inline(never)]
+fn has_either_case(items: &[ClassItem], unit: u16) -> bool
+    ensures { result ≡ (in_items items.now (lower_unit unit) || in_items items.now (upper_unit unit)) }
+{
+    in_items(items, lower_case(unit)) || in_items(items, upper_case(unit))
+}
+
 fn has_unit(ignore_case: bool, items: &[ClassItem], unit: u16) -> bool
     ensures { result ≡ has_unit ignore_case items.now unit }
 {
-    in_items(items, unit)
-        || ignore_case && (in_items(items, lower_case(unit)) || in_items(items, upper_case(unit)))
+    in_items(items, unit) || ignore_case && has_either_case(items, unit)
 }
 
 /// Whether a class has a unit, or with case ignored the same ASCII letter in the other case.

@@ -8,4 +8,4 @@ abbrev pub invariant-steps : goal.invariant-steps
 invariant-steps l = IsLater (outcome_from (subject_in l.fn.self) l.fn.root l.fn.state) l.fn.fuel (outcome_of (subject_in l.fn.self) l.state l.now) l.fuel
 
 abbrev pub decreases-steps : goal.decreases-steps
-decreases-steps l = 3 * l.fuel + weight l.now
+decreases-steps l = 4 * l.fuel + weight l.now

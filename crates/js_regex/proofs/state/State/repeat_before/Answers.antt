@@ -1,12 +1,7 @@
-use Rattle.std.proofs.Common.{◌∙◌}
 use Rattle.js_pattern.specs.Tree.{repeat, trees_of}
 use Rattle.js_pattern.specs.Walk.{offer}
-use Rattle.js_regex.proofs.Lists.{if_ok}
 use Rattle.js_regex.proofs.Steps.{saved}
 use Rattle.js_regex.proofs.state.State.repeat_before.Goals as goal
 
 pub returns : goal.returns
-returns c =
-    if_ok c.repeat.result
-    (λ next h s. h s ∙ saved s (trees_of c.args.others.now) (offer s (repeat c.args.body.now c.args.bounds)) _ _ c.in_ok-save.ensures)
-    c.repeat.ensures
+returns c = λ s. saved s (trees_of c.args.others.now) (offer s (repeat c.args.body.now c.args.bounds)) _ _ c.in_ok-save.ensures
