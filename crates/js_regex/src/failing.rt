@@ -45,7 +45,10 @@ impl<'p> Matcher<'p> {
         ensures { IfSome result (WalkFails (subject_in self.entry) root.now place) }
     {
         match &root.kind {
-            NodeKind::Row(terms) => self.terms_fail(terms.as_slice(), place)?.checked_add(1),
+            NodeKind::Row(terms) => match terms.as_slice() {
+                [] => None,
+                [first, others @ ..] => self.row_fails(first, others, place)?.checked_add(1),
+            },
             _ => None,
         }
     }

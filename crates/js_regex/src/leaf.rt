@@ -25,6 +25,7 @@ impl<'p> Matcher<'p> {
     ghost use Rattle.js_regex.specs.Subjects.{subject_in};
 
     /// The place behind a part that takes one unit. None where it doesn't match, or takes none.
+    #[inline(always)]
     pub(crate) fn single(self, node: &Node, place: usize) -> Option<usize>
         ensures { result ≡ behind_single (subject_in self.entry) node.now place }
     {
@@ -37,6 +38,7 @@ impl<'p> Matcher<'p> {
     }
 
     /// The place behind a part that takes one unit or is an assertion, if it matches. None where it is another.
+    #[inline(always)]
     pub(crate) fn leaf(self, node: &Node, place: usize) -> Option<Option<usize>>
         ensures { result ≡ behind_leaf (subject_in self.entry) node.now place }
     {
@@ -70,7 +72,7 @@ impl<'p> Matcher<'p> {
     }
 
     /// The place behind a unit of a class.
-    #[inline(never)]
+    #[inline(always)]
     fn class(self, class: &Class, place: usize) -> Option<usize>
         ensures { result ≡ behind_class (subject_in self.entry) class.now place }
     {
