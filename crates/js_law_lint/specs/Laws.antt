@@ -1,6 +1,6 @@
 -- What the tables of findings say of the names of the built-in objects, and what these themselves say.
-use Rattle.std.specs.Prelude.{◌≡◌, ℕ, Bool, true, false, ◌&&◌, ◌||◌, not, bytes_eq, List, [], ◌∷◌, ◌++◌, codes, flat_map, is_some, slice_get, unwrap_or, option_map}
-use Rattle.std.specs.List.{list_all, list_any}
+use Rattle.std.specs.Prelude.{◌≡◌, ℕ, Bool, true, false, ◌&&◌, ◌||◌, not, bytes_eq, List, [], ◌∷◌, ◌++◌, codes, flat_map, map, is_some, slice_get, unwrap_or, option_map}
+use Rattle.std.specs.List.{filter, list_all, list_any}
 use Rattle.heap_objects.specs.TableRows.{Row}
 use Rattle.heap_objects.specs.declared.table_row.Entry.{Entry}
 use Rattle.heap_objects.specs.declared.table_row.Entry.TheVariants.{LeftOut}
@@ -36,21 +36,21 @@ GlobalsAgree = list_all is_told_global (rows_at roots 2 ++ rows_at roots 0) ≡ 
 abbrev pub is_told_member : Row → Bool
 is_told_member row = are_same (is_some (missing_by (standing_among members row.0))) (is_left_out row.1)
 
+abbrev pub member_rows : List Row
+member_rows = rows_at roots 0 ++ flat_map (λ (object : TableObject). object.1) prototypes
+
+-- all but one: what is left out of the prototype of patterns under a name that every object has
+abbrev pub MembersAgree : Type 0
+MembersAgree = map (λ (row : Row). row.0) (filter (λ (row : Row). not (is_told_member row)) member_rows) ≡ codes "constructor" ∷ []
+
+-- ---- properties that functions inherit from Function.prototype
+
 abbrev pub is_named : List ℕ → Row → Bool
 is_named x row = bytes_eq x row.0
 
 -- every object has a property of this name
 abbrev pub is_common : Row → Bool
 is_common row = list_any (is_named row.0) (rows_at roots 0)
-
--- what is left out under such a name isn't told by the name alone
-abbrev pub is_hidden : Row → Bool
-is_hidden row = is_left_out row.1 && is_common row
-
-abbrev pub MembersAgree : Type 0
-MembersAgree = list_all (λ (row : Row). is_hidden row || is_told_member row) (rows_at roots 0 ++ flat_map (λ (object : TableObject). object.1) prototypes) ≡ true
-
--- ---- properties that functions inherit from Function.prototype
 
 abbrev pub FunctionsAgree : Type 0
 FunctionsAgree = list_all (λ (row : Row). is_common row || is_told_member row) (rows_at roots 1) ≡ true

@@ -6,8 +6,7 @@ pub fn globals_agree()
     ensures { GlobalsAgree }
 {}
 
-/// A property that objects inherit is told by its name exactly where it is left out, unless every object has one of that
-/// name.
+/// A property that objects inherit is told by its name exactly where it is left out, but for `constructor` of patterns.
 pub fn members_agree()
     ensures { MembersAgree }
 {}
