@@ -50,7 +50,7 @@ unfolding forms
 constant = refl
 
 -- a regular expression that isn't read is refused at its slash
-pub look_ahead : advice_on kind.Unsupported (at 1 9) (codes "var x = /(?=a)/;") ≡ codes "a regular expression has no look-ahead here, only the escapes of edition 5.1, 20 groups and counts to 1000; write it with other parts"
+pub look_ahead : advice_on kind.Unsupported (at 1 9) (codes "var x = /(?=a)/;") ≡ codes "a regular expression has no look-ahead here, no \\c, no octal escape, no letter behind \\ that means nothing, at most 20 groups, and counts to 1000; write it with other parts"
 unfolding forms
 look_ahead = refl
 
