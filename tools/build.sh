@@ -134,7 +134,7 @@ build_first() {
     attend flock 9 || fail "flock is missing, which keeps two calls from building at once"
   fi
   until is_current; do
-    say "the program is proved and built first; from nothing this takes about three quarters of an hour"
+    say "the program is proved and built first; from nothing this takes an hour or more"
     is_building=yes
     build
     is_building=
