@@ -46,7 +46,7 @@ SCRIPTS = [
     ('return "SOCKS5 [::1]";', "OK proxy=SOCKS5:[::1]:1080 proxies=SOCKS5:[::1]:1080"),
     ("alert('url 1 x'); return 1 / 0;", "BH message=fault%20F11%20DivisionByZero%20at%201%3A66"),
     ("dnsResolve(host);", "BH message=unanswered%20a.example"),
-    ("return /a/;", "BH message=refused%20script%201%3A46%20Unsupported"),
+    ("return /(?=a)/;", "BH message=refused%20script%201%3A46%20Unsupported"),
 ]
 # words that write no report, and how the message begins
 WORDS = [
