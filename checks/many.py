@@ -41,9 +41,9 @@ class Room:
             file.write(text)
         return self.path(name)
 
-    def start(self, *words, stdin=subprocess.PIPE):
+    def start(self, *words, stdin=subprocess.PIPE, **variables):
         pipes = {"stdin": stdin, "stdout": subprocess.PIPE, "stderr": subprocess.PIPE}
-        environment = {**os.environ, "TMPDIR": self.temporary}
+        environment = {**os.environ, "TMPDIR": self.temporary, **variables}
         return subprocess.Popen([TOOL, *words], env=environment, start_new_session=True, **pipes)
 
     def answers(self, urls, *words, before=()):
@@ -113,6 +113,21 @@ def takes_long_lines(room):
     expect("too long", (out, status), ("refused url 1 BadUrl\nrefused url 2 TooLong\n", 1))
 
 
+def writes_what_signals_interrupt(room):
+    # the reader is slow, so a write waits for it when the signal comes, which cuts that short
+    paths = [f"{n:x<8000}" for n in range(100)]
+    process = room.start(room.script, room.names, PYTHONUNBUFFERED="1")
+    process.stdin.write("".join(f"http://a.example/{path}\n" for path in paths).encode())
+    process.stdin.close()
+    out = b""
+    while part := os.read(process.stdout.fileno(), 32_768):
+        out += part
+        time.sleep(0.01)
+        process.send_signal(signal.SIGCHLD)
+    found = out.decode(), process.wait(timeout=60)
+    expect("interrupted writes", found, ("".join(answer(n + 1, "a.example", path) for n, path in enumerate(paths)), 0))
+
+
 def hands_options_on(room):
     urls = ["http://clock.example/"] * 300
     # 1970-01-01, at the beginning of the fourth hour and behind it
@@ -171,6 +186,7 @@ CHECKS = [
     answers_beside_faults_and_refusals,
     stops_where_asked,
     takes_long_lines,
+    writes_what_signals_interrupt,
     hands_options_on,
     says_what_is_wrong,
     leaves_nothing_behind,

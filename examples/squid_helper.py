@@ -84,14 +84,15 @@ def answers_to(words, urls):
 
 
 def main(words):
-    rest = b""
+    # Where PYTHONUNBUFFERED is set, sys.stdout drops what is left of a write that is cut short.
+    out, rest = open(1, "wb", closefd=False), b""
     while piece := os.read(sys.stdin.fileno(), PIECE):
         *lines, rest = (rest + piece).split(b"\n")
         for first in range(0, len(lines), MOST_URLS):
             channels, urls = zip(*map(channel_and_url, lines[first : first + MOST_URLS]))
             for channel, answer in zip(channels, answers_to(words, urls)):
-                sys.stdout.buffer.write(channel + answer.encode() + b"\n")
-            sys.stdout.buffer.flush()
+                out.write(channel + answer.encode() + b"\n")
+            out.flush()
 
 
 if __name__ == "__main__":

@@ -102,7 +102,7 @@ pub fn delete_element(
     ensures { OnOk result (heap.new ≡ without heap.old array (decimal at)) }
 {
     let name = index_name(alloc, at)?;
-    heap.delete(array, &name);
+    heap.delete(alloc, array, &name)?;
     Ok(())
 }
 

@@ -102,7 +102,7 @@ pub(crate) fn name(alloc: Global, fields: &[&str]) -> Result<String> {
     let object = object_named(alloc, &heap, object)?;
     let name = text(alloc, name)?;
     let found = written_own(alloc, &heap.get_own(alloc, object, &name)?)?;
-    let mark = if heap.delete(object, &name) {
+    let mark = if heap.delete(alloc, object, &name)? {
         "deletable"
     } else {
         "fixed"

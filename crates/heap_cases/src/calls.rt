@@ -5,6 +5,7 @@ use case_rows::{text, written_text};
 use js_pattern_reader::PatternLiteral;
 use object_heap::{Found, Heap, HeapAnswer, Kind, Marks, ObjectId, ScopeId, Value};
 use std::alloc::Global;
+use std::mem::swap;
 use utf16_text::{Text, TextList};
 
 /// A call: its name, and behind it an object, a scope or a count by its number, a property, an index or a slot by its
@@ -32,10 +33,11 @@ enum Answer {
     Value(Value),
 }
 
-/// A heap, with the objects and scopes that calls made, which name them by their places here.
+/// A heap and copies that calls made, with the objects and scopes that they made, which name them by their places here.
 #[derive(Drop)]
 struct Bench {
     heap: Heap,
+    others: Vec<Heap>,
     objects: Vec<ObjectId>,
     scopes: Vec<ScopeId>,
 }
@@ -44,6 +46,7 @@ struct Bench {
 pub(crate) fn told(alloc: Global, calls: &[&str]) -> Result<String> {
     let mut bench = Bench {
         heap: Heap::new(alloc)?,
+        others: Vec::new(alloc),
         objects: Vec::new(alloc),
         scopes: Vec::new(alloc),
     };
@@ -142,9 +145,28 @@ impl Bench {
             }
             "cells" => Ok(Answer::Count(self.heap.cells())),
             "spend" => self.spend(call),
+            "share" | "copy" | "swap" => self.pass(alloc, call),
             "put" | "put-index" | "define" | "define-index" | "write" => self.write(alloc, call),
             _ => self.ask(alloc, call),
         }
+    }
+
+    /// Makes the heap a shared one, puts a copy of it aside, or takes the one that stands aside in its stead.
+    fn pass(&mut self, alloc: Global, call: &Call) -> Result<Answer, HeapAnswer> {
+        let copy = self.heap.copy(alloc)?;
+        match call.name.as_str() {
+            "share" => self.heap = copy.into_shared(alloc)?,
+            "copy" => match self.others.push(copy) {
+                Ok(()) => {}
+                Err(_) => return Err(HeapAnswer::Memory),
+            },
+            _ => {
+                if let Some(other) = self.others.get_mut(call.number as usize) {
+                    swap(&mut self.heap, other);
+                }
+            }
+        }
+        Ok(Answer::Nothing)
     }
 
     fn make(
@@ -208,7 +230,7 @@ impl Bench {
             "put" => self.heap.put(alloc, object, &call.property, value)?,
             "put-index" => self.heap.put_index(alloc, object, call.slot, value)?,
             "define-index" => self.heap.define_index(alloc, object, call.slot, value)?,
-            "write" => self.heap.write_slot(scope, call.slot, value),
+            "write" => self.heap.write_slot(alloc, scope, call.slot, value)?,
             _ => self
                 .heap
                 .define(alloc, object, &call.property, value, false, false)?,
@@ -220,7 +242,7 @@ impl Bench {
         let object = self.object(call.number);
         let name = &call.property;
         Ok(match call.name.as_str() {
-            "delete" => Answer::Truth(self.heap.delete(object, name)),
+            "delete" => Answer::Truth(self.heap.delete(alloc, object, name)?),
             "get" => Answer::Found(self.heap.get(alloc, object, name)?),
             "get-index" => Answer::Found(self.heap.get_index(alloc, object, call.slot)?),
             "own" => Answer::Found(self.heap.get_own(alloc, object, name)?),

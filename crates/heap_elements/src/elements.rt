@@ -84,6 +84,17 @@ impl Elements {
         }
     }
 
+    /// The same properties. Their texts share their units with the copy.
+    pub fn copy(&self, alloc: Global) -> Result<Elements, Memory>
+        ensures { IfOk result (λ elements. elements ≡ self.now) }
+    {
+        let slots = copied_slots(alloc, &self.slots)?;
+        Ok(Elements {
+            slots,
+            deletions: self.deletions,
+        })
+    }
+
     /// The property under an index.
     pub fn get(&self, index: u32) -> Option<&Property>
         ensures { option_copied result ≡ property_at (elements_of self.now) (decimal index) }
@@ -233,6 +244,25 @@ impl Elements {
             }
         }
         Ok(names)
+    }
+}
+
+fn copied_slots(alloc: Global, slots: &[Slot]) -> Result<Vec<Slot>, Memory>
+    ensures { IfOk result (λ copies. copies.items ≡ slots.now) }
+{
+    let mut copies = Vec::with_capacity(alloc, slots.len())?;
+    for slot in slots {
+        copies.push((slot.0, copied_content(alloc, &slot.1)?))?;
+    }
+    Ok(copies)
+}
+
+fn copied_content(alloc: Global, content: &Option<Property>) -> Result<Option<Property>, Memory>
+    ensures { IfOk result (λ copy. copy ≡ content.now) }
+{
+    match content {
+        None => Ok(None),
+        Some(property) => Ok(Some(property.copy(alloc)?)),
     }
 }
 

@@ -13,4 +13,4 @@ mod row;
 pub use elements::Elements;
 pub use listing::{join_names, list_name, list_row};
 pub use names::{array_index, index_name};
-pub use row::{find_in_row, remove_in_row, set_in_row};
+pub use row::{copy_of_row, find_in_row, remove_in_row, set_in_row};

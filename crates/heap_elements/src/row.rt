@@ -1,5 +1,5 @@
 // A few properties in a row.
-ghost use Rattle.std.specs.Prelude.{◌≡◌, ◌<◌, IfSome, IfNone, OnOk, OnErr, length};
+ghost use Rattle.std.specs.Prelude.{◌≡◌, ◌<◌, IfOk, IfSome, IfNone, OnOk, OnErr, length};
 ghost use Rattle.std.specs.Str.{bytes_eq};
 ghost use Rattle.std.specs.Option.{option_copied};
 ghost use Rattle.heap_elements.specs.Properties.{property_at, with_property, without_property};
@@ -8,6 +8,17 @@ ghost use Rattle.heap_elements.specs.Places.{StandsAt, IsMissing, NamesDiffer};
 use heap_values::Property;
 use std::alloc::Global;
 use utf16_text::{Memory, Text};
+
+/// The same row. Its texts share their units with the copy.
+pub fn copy_of_row(alloc: Global, row: &[(Text, Property)]) -> Result<Vec<(Text, Property)>, Memory>
+    ensures { IfOk result (λ copy. copy.items ≡ row.now) }
+{
+    let mut copy = Vec::with_capacity(alloc, row.len())?;
+    for entry in row {
+        copy.push((entry.0.copy(alloc)?, entry.1.copy(alloc)?))?;
+    }
+    Ok(copy)
+}
 
 pub fn find_in_row<'a>(row: &'a [(Text, Property)], name: &Text) -> Option<&'a Property>
     ensures { option_copied result ≡ property_at row.now name.now }

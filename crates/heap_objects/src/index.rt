@@ -25,6 +25,13 @@ pub(crate) fn place_or(
     Ok(*place)
 }
 
+/// The same index. The names share their units with the copy.
+pub(crate) fn copied_places(places: &BTreeMap<Text, u32>) -> Result<BTreeMap<Text, u32>, Memory>
+    ensures { IfOk result (λ copy. copy.entries ≡ places.now.entries) }
+{
+    Ok(places.clone()?)
+}
+
 /// Takes a name out of the index. The answer is the place that it had.
 pub(crate) fn remove_place(places: &mut BTreeMap<Text, u32>, name: &Text) -> Option<u32>
     ensures place { result ≡ get (slice_cmp nat_cmp) places.old name.now }

@@ -81,6 +81,15 @@ impl Layered {
         Ok(Layered { table, own })
     }
 
+    /// The same properties. Their texts share their units with the copy.
+    pub(crate) fn copy(&self, alloc: Global) -> Result<Layered, Memory>
+        ensures { IfOk result (λ properties. properties ≡ self.now) }
+    {
+        let table = copied_table(alloc, &self.table)?;
+        let own = self.own.copy(alloc)?;
+        Ok(Layered { table, own })
+    }
+
     /// What stands under this name.
     pub(crate) fn find(&self, alloc: Global, name: &Text) -> Result<Found, Memory>
         ensures { IfOk result (λ found. found ≡ found_property (property_at self.now name.now)) }
@@ -183,6 +192,19 @@ impl Layered {
         ensures { IfOk result (λ names. names ≡ listed_names_of self.now) }
     {
         self.own.listed_names(alloc)
+    }
+}
+
+fn copied_table(
+    alloc: Global,
+    table: &Option<Box<TableRows>>,
+) -> Result<Option<Box<TableRows>>, Memory>
+    ensures left { IfOk result (λ copy. left_of copy ≡ left_of table.now) }
+    ensures marked { IfOk result (λ copy. AreMarked table.now → AreMarked copy) }
+{
+    match table {
+        None => Ok(None),
+        Some(table) => Ok(Some(Box::new(alloc, table.copy())?)),
     }
 }
 

@@ -27,6 +27,7 @@ use crate::marks::Marks;
 use crate::table_row::TableRow;
 use heap_elements::{array_index, index_name};
 use heap_values::{Content, Found, Kind, ObjectId, Property, Value};
+use shared_list::Copied;
 use std::alloc::Global;
 use std::marker::Model;
 use utf16_text::{Memory, Text, TextList};
@@ -297,6 +298,18 @@ impl Object {
         ensures { IfOk result (λ names. names ≡ listed_names_of self.now.properties) }
     {
         self.properties.listed_names(alloc)
+    }
+}
+
+impl Copied for Object {
+    fn copied(&self, alloc: Global) -> Result<Object, Memory> {
+        let properties = self.properties.copy(alloc)?;
+        Ok(Object {
+            kind: self.kind,
+            properties,
+            prototype: self.prototype,
+            length: self.length,
+        })
     }
 }
 

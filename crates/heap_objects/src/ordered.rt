@@ -9,10 +9,11 @@ ghost use Rattle.heap_elements.specs.Properties.{
   listed_names_of,
 };
 
-use crate::index::{move_places, place_or, remove_place};
+use crate::index::{copied_places, move_places, place_or, remove_place};
 use crate::properties::Properties;
 use crate::slots::{
-    Slot, append_slot, copy_slots, drop_gaps, list_slots, next_place, property_at_place, write_slot,
+    Slot, append_slot, copied_row, copy_slots, drop_gaps, list_slots, next_place,
+    property_at_place, write_slot,
 };
 use heap_values::Property;
 use std::alloc::Global;
@@ -55,6 +56,15 @@ impl Ordered {
             row: Vec::new(alloc),
             places: BTreeMap::new(alloc),
         }
+    }
+
+    /// The same properties. Their texts share their units with the copy.
+    pub(crate) fn copy(&self, alloc: Global) -> Result<Ordered, Memory>
+        ensures { IfOk result (λ many. many ≡ self.now) }
+    {
+        let row = copied_row(alloc, &self.row)?;
+        let places = copied_places(&self.places)?;
+        Ok(Ordered { row, places })
     }
 
     pub(crate) fn get(&self, name: &Text) -> Option<&Property>

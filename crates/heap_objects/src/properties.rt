@@ -14,7 +14,8 @@ ghost use Rattle.heap_objects.specs.Forms.{listed, RowDiffers};
 
 use crate::ordered::Ordered;
 use heap_elements::{
-    Elements, array_index, find_in_row, index_name, list_row, remove_in_row, set_in_row,
+    Elements, array_index, copy_of_row, find_in_row, index_name, list_row, remove_in_row,
+    set_in_row,
 };
 use heap_values::Property;
 use std::alloc::Global;
@@ -71,6 +72,14 @@ impl Properties {
         Ok(Properties {
             form: Form::Row(row),
         })
+    }
+
+    /// The same properties. Their texts share their units with the copy.
+    pub fn copy(&self, alloc: Global) -> Result<Properties, Memory>
+        ensures { IfOk result (λ properties. properties ≡ self.now) }
+    {
+        let form = copied_form(alloc, &self.form)?;
+        Ok(Properties { form })
     }
 
     /// The property of this name.
@@ -192,6 +201,17 @@ impl Properties {
             Form::Elements(elements) => elements.listed_names(alloc),
             Form::Ordered(many) => many.listed_names(alloc),
         }
+    }
+}
+
+fn copied_form(alloc: Global, form: &Form) -> Result<Form, Memory>
+    ensures listed { IfOk result (λ copy. listed copy ≡ listed form.now) }
+    ensures differs { IfOk result (λ copy. RowDiffers form.now → RowDiffers copy) }
+{
+    match form {
+        Form::Row(row) => Ok(Form::Row(copy_of_row(alloc, row)?)),
+        Form::Elements(elements) => Ok(Form::Elements(elements.copy(alloc)?)),
+        Form::Ordered(many) => Ok(Form::Ordered(Box::new(alloc, many.copy(alloc)?)?)),
     }
 }
 

@@ -4,6 +4,7 @@ ghost use Rattle.heap_objects.specs.Scope.{fresh_scope, slot_in, scope_with};
 ghost use Rattle.heap_values.specs.declared.value.Value.TheVariants.{Undefined};
 
 use heap_values::{ScopeId, Value};
+use shared_list::Copied;
 use std::alloc::Global;
 use std::marker::Model;
 use utf16_text::Memory;
@@ -58,6 +59,26 @@ impl Scope {
             self.slots[at] = value;
         }
     }
+}
+
+impl Copied for Scope {
+    fn copied(&self, alloc: Global) -> Result<Scope, Memory> {
+        let slots = copied_values(alloc, &self.slots)?;
+        Ok(Scope {
+            slots,
+            parent: self.parent,
+        })
+    }
+}
+
+fn copied_values(alloc: Global, values: &[Value]) -> Result<Vec<Value>, Memory>
+    ensures { IfOk result (λ copies. copies.items ≡ values.now) }
+{
+    let mut copies = Vec::with_capacity(alloc, values.len())?;
+    for value in values {
+        copies.push(value.copy(alloc)?)?;
+    }
+    Ok(copies)
 }
 
 fn undefined_slots(alloc: Global, size: u32) -> Result<Vec<Value>, Memory>

@@ -79,6 +79,26 @@ pub(crate) fn drop_gaps(row: &mut Vec<Slot>)
     row.retain(|slot| slot.is_some());
 }
 
+/// The same row. Its texts share their units with the copy.
+pub(crate) fn copied_row(alloc: Global, row: &[Slot]) -> Result<Vec<Slot>, Memory>
+    ensures { IfOk result (λ copies. copies.items ≡ row.now) }
+{
+    let mut copies = Vec::with_capacity(alloc, row.len())?;
+    for slot in row {
+        copies.push(copied_slot(alloc, slot)?)?;
+    }
+    Ok(copies)
+}
+
+fn copied_slot(alloc: Global, slot: &Slot) -> Result<Slot, Memory>
+    ensures { IfOk result (λ copy. copy ≡ slot.now) }
+{
+    match slot {
+        None => Ok(None),
+        Some(entry) => Ok(Some((entry.0.copy(alloc)?, entry.1.copy(alloc)?))),
+    }
+}
+
 /// Adds what stands in a row to other properties, one after the other.
 pub(crate) fn copy_slots(alloc: Global, row: &[Slot], all: &mut Properties) -> Result<(), Memory>
     ensures { OnOk result (all.new ≡ with_properties all.old (standing row.now)) }

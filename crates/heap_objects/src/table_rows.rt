@@ -54,6 +54,16 @@ impl TableRows {
         }
     }
 
+    /// The same rows.
+    pub(crate) fn copy(&self) -> TableRows
+        ensures { result ≡ self.now }
+    {
+        TableRows {
+            rows: self.rows,
+            gone: self.gone,
+        }
+    }
+
     /// The row of this name.
     pub(crate) fn find(&self, name: &Text) -> Option<&TableRow>
         ensures { option_map (λ row. row_property (row_read row)) (option_copied result) ≡ property_at (left_in self.now) name.now }

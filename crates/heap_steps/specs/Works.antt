@@ -27,7 +27,7 @@ use Rattle.heap_steps.specs.declared.halt.Halt.TheVariants as halt
 
 -- what a state has beside its heap and its fuel
 pub record Beside : Type 0 where
-  pub now : Moments
+  pub now : Option Moments
   pub settings : PacSettings
 
 abbrev pub state_with : HeapView → ℕ → Beside → RunState

@@ -123,7 +123,7 @@ pub fn write_name(
     match name.bound {
         Bound::Slot { up, slot } => {
             let holder = scope_out(heap, up, scope);
-            heap.write_slot(holder, slot, value);
+            heap.write_slot(alloc, holder, slot, value)?;
             Ok(())
         }
         Bound::Own { .. } => Ok(()),

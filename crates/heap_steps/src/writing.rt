@@ -224,7 +224,7 @@ fn delete_of(
 {
     match heap.get_own(alloc, object, name)? {
         Found::LeftOut(name) => Err(Halt::LeftOut { name, place }),
-        Found::Absent => Ok(Value::Bool(heap.delete(object, name))),
-        Found::Value(_) => Ok(Value::Bool(heap.delete(object, name))),
+        Found::Absent => Ok(Value::Bool(heap.delete(alloc, object, name)?)),
+        Found::Value(_) => Ok(Value::Bool(heap.delete(alloc, object, name)?)),
     }
 }

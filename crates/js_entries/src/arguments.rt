@@ -140,7 +140,7 @@ fn write_arguments(
     ensures { Works (spec.arguments_in scope slot arguments.now place) heap.old result heap.new }
 {
     let object = arguments_object(alloc, heap, arguments, place)?;
-    heap.write_slot(scope, slot, object);
+    heap.write_slot(alloc, scope, slot, object)?;
     Ok(())
 }
 

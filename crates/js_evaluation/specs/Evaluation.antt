@@ -89,6 +89,10 @@ function_named h name = function_of h (found_of h global_id name)
 abbrev pub entry_in : HeapView → Option ObjectId
 entry_in h = option_or (function_named h (codes "FindProxyForURLEx")) (function_named h (codes "FindProxyForURL"))
 
+-- a script is loaded in the outermost scope
+abbrev pub loaded : Scoping → List FunctionTree → Statements → Does Value
+loaded scoping functions ss = (evaluation scoping functions MOST_OPEN).value (load_part outer_scope ss)
+
 module _ (scoping : Scoping) (functions : List FunctionTree) (entry : Entry) where
   -- the two texts are tested, and then the function is called
   abbrev pub called_for : Option ObjectId → Does Value
@@ -99,14 +103,15 @@ module _ (scoping : Scoping) (functions : List FunctionTree) (entry : Entry) whe
 
   -- the script is loaded, and then its function is called with the URL and the host
   abbrev pub script_run : Statements → Does Value
-  script_run ss =
-      (evaluation scoping functions MOST_OPEN).value (load_part outer_scope ss)
-      >> reading (λ s. called_for (entry_in s.heap))
+  script_run ss = loaded scoping functions ss >> reading (λ s. called_for (entry_in s.heap))
 
--- the heap at the beginning of a run holds the built-in objects alone
+-- at the beginning the heap holds the built-in objects alone
+abbrev pub fresh_state : Scoping → Option Moments → PacSettings → ℕ → RunState
+fresh_state scoping now settings fuel =
+    record { heap = fresh_heap; fuel = fuel; now = now; settings = settings; names = scoping.outermost }
+
 abbrev pub first_state : Scoping → Entry → RunState
-first_state scoping entry =
-    record { heap = fresh_heap; fuel = entry.fuel; now = entry.now; settings = entry.settings; names = scoping.outermost }
+first_state scoping entry = fresh_state scoping (Some entry.now) entry.settings entry.fuel
 
 -- a run as a tree of what it asks of its host
 abbrev pub tree_by : Scoping → Statements → List FunctionTree → Entry → RunTree RunEnd
@@ -120,6 +125,11 @@ run_by_names script entry = tree_by by_names (numbered_script script).0 (numbere
 -- the run of a program whose names have their slots
 abbrev pub run_tree : Statements → List FunctionTree → Entry → RunTree RunEnd
 run_tree ss functions entry = tree_by by_slots ss functions entry
+
+-- the load of a program for runs at any moment, to which no clock is shown
+abbrev pub load_tree : Statements → List FunctionTree → PacSettings → ℕ → RunTree RunEnd
+load_tree ss functions settings fuel =
+    loaded by_slots functions ss (λ result state. Done (Comes result state)) (fresh_state by_slots None settings fuel)
 
 -- ---- how a run ended
 

@@ -32,11 +32,12 @@ use Rattle.run_trees.specs.Runs.{Run, After, pure, abrupt, halt, reading, changi
 use Rattle.utf16_text.specs.declared.limits.TheConstants.{LONGEST_TEXT}
 
 -- What a run has of its own: its heap and the fuel that is left. And what its script is told of its surroundings, which
--- no rule changes: what clocks show, and the settings of the functions of the proxy format.
+-- no rule changes: what clocks show, but where a script is loaded for runs at any moment, and the settings of the
+-- functions of the proxy format.
 pub record RunState : Type 0 where
   pub heap : HeapView
   pub fuel : ℕ
-  pub now : Moments
+  pub now : Option Moments
   pub settings : PacSettings
   -- the names of each scope of the heap, by the scope's number; empty in a run by slots
   pub names : List Scope

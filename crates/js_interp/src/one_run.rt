@@ -118,7 +118,7 @@ fn begin<'p>(alloc: Global, functions: &'p [Function], entry: &Entry) -> Result<
         state: State {
             heap,
             fuel: entry.fuel,
-            now: entry.now,
+            now: Some(entry.now),
             settings: entry.settings,
         },
     })

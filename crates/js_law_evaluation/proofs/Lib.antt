@@ -1,4 +1,5 @@
 pub mod Asking
+pub mod Clocks
 pub mod PacAsking
 pub mod OfState
 pub mod OfHanded
@@ -16,3 +17,4 @@ pub mod OfExpressions
 pub mod OfStatements
 pub mod OfEntries
 pub mod OfEvaluation
+pub mod OfLoads

@@ -1,5 +1,5 @@
 -- Names and scopes by names have one end and ask for lookup names alone.
-use Rattle.std.proofs.Common.{ℕ, List, false, Some, Result, Ok, Err}
+use Rattle.std.proofs.Common.{refl, ℕ, List, false, Some, Result, Ok, Err}
 use Rattle.js_tree.specs.declared.place.Place.{Place}
 use Rattle.js_tree.specs.declared.bound.BoundName.{BoundName}
 use Rattle.js_binding.specs.Scopes.{Scope}
@@ -17,19 +17,19 @@ use Rattle.js_law_evaluation.proofs.OfObjects.{found_value-ends, put_on-ends, de
 -- ---- names
 
 read_at-ends : (x : List ℕ) (place : Place) (at : Standing) → Ends (read_at x place at)
-read_at-ends x place (in_scope scope slot) = reads (λ s. gives (slot_of s.heap scope slot))
-read_at-ends x place (in_own scope) = reads (λ s. gives (slot_of s.heap scope 0))
-read_at-ends x place in_global = reads (λ s. global_value-ends x (found_of s.heap global_id x) place)
+read_at-ends x place (in_scope scope slot) = reads (λ m s. refl) (λ s. gives (slot_of s.heap scope slot))
+read_at-ends x place (in_own scope) = reads (λ m s. refl) (λ s. gives (slot_of s.heap scope 0))
+read_at-ends x place in_global = reads (λ m s. refl) (λ s. global_value-ends x (found_of s.heap global_id x) place)
 
 pub read_name-ends : (cx : Context) (x : BoundName) (place : Place) → Ends (read_name cx x place)
-read_name-ends cx x place = reads (λ s. read_at-ends x.name place (standing s cx.scope x.name))
+read_name-ends cx x place = reads (λ m s. refl) (λ s. read_at-ends x.name place (standing s cx.scope x.name))
 
 read_or_undefined_at-ends : (x : List ℕ) (place : Place) (at : Standing) → Ends (read_or_undefined_at x place at)
-read_or_undefined_at-ends x place in_global = reads (λ s. found_value-ends Undefined (found_of s.heap global_id x) place)
+read_or_undefined_at-ends x place in_global = reads (λ m s. refl) (λ s. found_value-ends Undefined (found_of s.heap global_id x) place)
 read_or_undefined_at-ends x place at = read_at-ends x place at
 
 pub read_or_undefined-ends : (cx : Context) (x : BoundName) (place : Place) → Ends (read_or_undefined cx x place)
-read_or_undefined-ends cx x place = reads (λ s. read_or_undefined_at-ends x.name place (standing s cx.scope x.name))
+read_or_undefined-ends cx x place = reads (λ m s. refl) (λ s. read_or_undefined_at-ends x.name place (standing s cx.scope x.name))
 
 write_at-ends : (x : List ℕ) (v : Value) (place : Place) (at : Standing) → Ends (write_at x v place at)
 write_at-ends x v place (in_scope scope slot) = write_slot-ends scope slot v
@@ -37,20 +37,20 @@ write_at-ends x v place (in_own scope) = gives tt
 write_at-ends x v place in_global = put_on-ends global_id x v place
 
 pub write_name-ends : (cx : Context) (x : BoundName) (v : Value) (place : Place) → Ends (write_name cx x v place)
-write_name-ends cx x v place = reads (λ s. write_at-ends x.name v place (standing s cx.scope x.name))
+write_name-ends cx x v place = reads (λ m s. refl) (λ s. write_at-ends x.name v place (standing s cx.scope x.name))
 
 delete_at-ends : (x : List ℕ) (place : Place) (at : Standing) → Ends (delete_at x place at)
 delete_at-ends x place in_global = delete_property-ends (Object global_id) x place
 delete_at-ends x place at = gives (Truth false)
 
 pub delete_name-ends : (cx : Context) (x : BoundName) (place : Place) → Ends (delete_name cx x place)
-delete_name-ends cx x place = reads (λ s. delete_at-ends x.name place (standing s cx.scope x.name))
+delete_name-ends cx x place = reads (λ m s. refl) (λ s. delete_at-ends x.name place (standing s cx.scope x.name))
 
 -- ---- scopes
 
 scoped-ends : (names : Scope) (place : Place) (result : Result (ScopeId × HeapView) HeapAnswer) → Ends (scoped names place result)
-scoped-ends names place (Ok made) = changes _ then gives made.0
+scoped-ends names place (Ok made) = changes _ (λ m s. (refl, refl)) then gives made.0
 scoped-ends names place (Err e) = fails _ place
 
 pub make_scope-ends : (names : Scope) (around : ScopeId) (place : Place) → Ends (make_scope names around place)
-make_scope-ends names around place = reads (λ s. scoped-ends names place (scope_made_of s.heap (size_of names) (Some around)))
+make_scope-ends names around place = reads (λ m s. refl) (λ s. scoped-ends names place (scope_made_of s.heap (size_of names) (Some around)))

@@ -1,5 +1,5 @@
 -- Names and scopes by slots have one end and ask for lookup names alone.
-use Rattle.std.proofs.Common.{ℕ, List, false}
+use Rattle.std.proofs.Common.{refl, ℕ, List, false}
 use Rattle.js_tree.specs.declared.place.Place.{Place}
 use Rattle.js_tree.specs.declared.bound.Bound.{Bound}
 use Rattle.js_tree.specs.declared.bound.Bound.TheVariants as bound
@@ -13,23 +13,23 @@ use Rattle.js_law_evaluation.proofs.OfState.{Ends, gives, reads, write_slot-ends
 use Rattle.js_law_evaluation.proofs.OfObjects.{found_value-ends, put_on-ends, delete_property-ends, global_value-ends}
 
 read_bound-ends : (cx : Context) (name : List ℕ) (b : Bound) (place : Place) → Ends (read_bound cx name b place)
-read_bound-ends cx name (bound.Slot up slot) place = reads (λ s. gives (slot_of s.heap (scope_out s.heap up cx.scope) slot))
-read_bound-ends cx name (bound.Own up) place = reads (λ s. gives (slot_of s.heap (scope_out s.heap up cx.scope) 0))
-read_bound-ends cx name bound.Global place = reads (λ s. global_value-ends name (found_of s.heap global_id name) place)
+read_bound-ends cx name (bound.Slot up slot) place = reads (λ m s. refl) (λ s. gives (slot_of s.heap (scope_out s.heap up cx.scope) slot))
+read_bound-ends cx name (bound.Own up) place = reads (λ m s. refl) (λ s. gives (slot_of s.heap (scope_out s.heap up cx.scope) 0))
+read_bound-ends cx name bound.Global place = reads (λ m s. refl) (λ s. global_value-ends name (found_of s.heap global_id name) place)
 read_bound-ends cx name bound.Unbound place = gives Undefined
 
 pub read_name-ends : (cx : Context) (x : BoundName) (place : Place) → Ends (read_name cx x place)
 read_name-ends cx x place = read_bound-ends cx x.name x.bound place
 
 read_or_undefined_by-ends : (cx : Context) (x : BoundName) (b : Bound) (place : Place) → Ends (read_or_undefined_by cx x b place)
-read_or_undefined_by-ends cx x bound.Global place = reads (λ s. found_value-ends Undefined (found_of s.heap global_id x.name) place)
+read_or_undefined_by-ends cx x bound.Global place = reads (λ m s. refl) (λ s. found_value-ends Undefined (found_of s.heap global_id x.name) place)
 read_or_undefined_by-ends cx x b place = read_name-ends cx x place
 
 pub read_or_undefined-ends : (cx : Context) (x : BoundName) (place : Place) → Ends (read_or_undefined cx x place)
 read_or_undefined-ends cx x place = read_or_undefined_by-ends cx x x.bound place
 
 write_bound-ends : (cx : Context) (name : List ℕ) (b : Bound) (v : Value) (place : Place) → Ends (write_bound cx name b v place)
-write_bound-ends cx name (bound.Slot up slot) v place = reads (λ s. write_slot-ends (scope_out s.heap up cx.scope) slot v)
+write_bound-ends cx name (bound.Slot up slot) v place = reads (λ m s. refl) (λ s. write_slot-ends (scope_out s.heap up cx.scope) slot v)
 write_bound-ends cx name (bound.Own up) v place = gives tt
 write_bound-ends cx name bound.Global v place = put_on-ends global_id name v place
 write_bound-ends cx name bound.Unbound v place = gives tt

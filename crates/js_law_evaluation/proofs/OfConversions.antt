@@ -1,5 +1,5 @@
 -- Conversions and operators have one end and ask for lookup names alone, where calls do.
-use Rattle.std.proofs.Common.{ℤ, pos, List, [], ◌∷◌, Bool, true, false, Result, Ok, Err}
+use Rattle.std.proofs.Common.{refl, ℤ, pos, List, [], ◌∷◌, Bool, true, false, Result, Ok, Err}
 use Rattle.std.specs.Prelude.{ℕ, ◌+ℤ◌, ◌-ℤ◌, codes}
 use Rattle.js_tree.specs.declared.place.Place.{Place}
 use Rattle.js_tree.specs.declared.operators.BinaryOp.{BinaryOp}
@@ -57,7 +57,7 @@ instance_of_by-ends call v f place = gives (Truth false)
 
 instance_of-ends : (call : Call) (a b : Value) (place : Place) → Ends (instance_of call a b place)
 instance_of-ends call a b place =
-    reads (λ s. either (is_callable s.heap b) (instance_of_by-ends call a b place) (throw_type_error-ends (codes "not a function") place))
+    reads (λ m s. refl) (λ s. either (is_callable s.heap b) (instance_of_by-ends call a b place) (throw_type_error-ends (codes "not a function") place))
 
 -- ---- where calls come to one end
 
@@ -70,11 +70,11 @@ module _ (call : Call) (call-ends : CallsEnd call) where
   call_value_if-ends b f this vs place = throw_type_error-ends (codes "not a function") place
 
   pub call_value-ends : (f this : Value) (vs : List Value) (place : Place) → Ends (call_value call f this vs place)
-  call_value-ends f this vs place = reads (λ s. call_value_if-ends (is_callable s.heap f) f this vs place)
+  call_value-ends f this vs place = reads (λ m s. refl) (λ s. call_value_if-ends (is_callable s.heap f) f this vs place)
 
   primitive_by-ends : (methods : List (List ℕ)) (id : ObjectId) (place : Place) → Ends (primitive_by call methods id place)
   primitive_by-ends [] id place = throw_type_error-ends (codes "not an object") place
-  primitive_by-ends (m ∷ ms) id place = get-ends (Object id) m place onto (λ f. reads (λ s. either (is_callable s.heap f)
+  primitive_by-ends (m ∷ ms) id place = get-ends (Object id) m place onto (λ f. reads (λ m s. refl) (λ s. either (is_callable s.heap f)
       (call_value-ends f (Object id) [] place onto (λ v. either (is_object v) (primitive_by-ends ms id place) (gives v)))
       (primitive_by-ends ms id place)))
 

@@ -1,5 +1,5 @@
 -- Entries have one end and ask for lookup names alone, where the words of scopes and the parts within do.
-use Rattle.std.proofs.Common.{ℕ, pos, List, [], ◌∷◌, Bool, true, false, Option, Some, None}
+use Rattle.std.proofs.Common.{refl, ℕ, pos, List, [], ◌∷◌, Bool, true, false, Option, Some, None}
 use Rattle.std.specs.Prelude.{length, slice_get, codes}
 use Rattle.js_tree.specs.declared.place.Place.{Place}
 use Rattle.js_tree.specs.declared.bound.BoundName.{BoundName}
@@ -76,7 +76,7 @@ declared_over-ends (Some old) name f p = either (def.gives_way old)
     (define-ends global_id name f true false p) (throw_type_error-ends (codes "not an object") p)
 
 declare_function-ends : (name : List ℕ) (f : Value) (p : Place) → Ends (def.declare_function name f p)
-declare_function-ends name f p = reads (λ s. declared_over-ends (def.own_property (object_at s.heap global_id) name) name f p)
+declare_function-ends name f p = reads (λ m s. refl) (λ s. declared_over-ends (def.own_property (object_at s.heap global_id) name) name f p)
 
 global_functions-ends : (functions : List FunctionTree) (cx : Context) (p : Place) (ss : Statements)
     → Ends (def.global_functions functions cx p ss)
@@ -93,7 +93,7 @@ declared_unless-ends f name p = gives tt
 global_variables-ends : (p : Place) (names : List (List ℕ)) → Ends (def.global_variables p names)
 global_variables-ends p [] = gives tt
 global_variables-ends p (name ∷ names) =
-    reads (λ s. declared_unless-ends (found_of s.heap global_id name) name p) then global_variables-ends p names
+    reads (λ m s. refl) (λ s. declared_unless-ends (found_of s.heap global_id name) name p) then global_variables-ends p names
 
 module _ {scoping : Scoping} (words : WordsEnd scoping) (functions : List FunctionTree)
     {go : Within} (ends : WithinEnds go) where
@@ -137,7 +137,7 @@ module _ {scoping : Scoping} (words : WordsEnd scoping) (functions : List Functi
   pub call_node-ends : (f : ObjectId) (this : Value) (vs : List Value) (p : Place)
       → Ends (def.call_node scoping functions go f this vs p)
   unfolding def.call_node
-  call_node-ends f this vs p = reads (λ s. called_by-ends (kind_in (object_at s.heap f)) this vs p)
+  call_node-ends f this vs p = reads (λ m s. refl) (λ s. called_by-ends (kind_in (object_at s.heap f)) this vs p)
 
   -- ---- `new`
 
@@ -154,7 +154,7 @@ module _ {scoping : Scoping} (words : WordsEnd scoping) (functions : List Functi
   pub construct_node-ends : (f : ObjectId) (vs : List Value) (p : Place)
       → Ends (def.construct_node scoping functions go f vs p)
   unfolding def.construct_node
-  construct_node-ends f vs p = reads (λ s. constructed_by-ends (kind_in (object_at s.heap f)) f vs p)
+  construct_node-ends f vs p = reads (λ m s. refl) (λ s. constructed_by-ends (kind_in (object_at s.heap f)) f vs p)
 
   -- ---- the load of a script
 

@@ -1,5 +1,5 @@
 -- Each part, at each depth, and each run have one end and ask for lookup names alone, where the words of scopes do.
-use Rattle.std.proofs.Common.{ℕ, zero, suc, List, [], ◌∷◌, Option, Some, None}
+use Rattle.std.proofs.Common.{refl, ℕ, zero, suc, List, [], ◌∷◌, Option, Some, None}
 use Rattle.js_tree.specs.Tree.{FunctionTree, StatementTree, Statements}
 use Rattle.heap_values.specs.declared.ids.ObjectId.{ObjectId}
 use Rattle.heap_values.specs.declared.value.Value.TheVariants as value
@@ -46,7 +46,7 @@ module _ {scoping : Scoping} (words : WordsEnd scoping) (functions : List Functi
   pub runs-end : (entry : Entry) (ss : Statements) → Ends (script_run scoping functions entry ss)
   runs-end entry ss =
       (evaluation-ends MOST_OPEN).value (load_part outer_scope ss)
-      then reads (λ s. called_for-ends entry (entry_in s.heap))
+      then reads (λ m s. refl) (λ s. called_for-ends entry (entry_in s.heap))
 
 pub tree_by-asks : {scoping : Scoping} → WordsEnd scoping → RunsAskLookupNames scoping
 unfolding AsksLookupNames

@@ -1,5 +1,5 @@
 -- Expressions have one end and ask for lookup names alone, where the words of scopes and the parts within do.
-use Rattle.std.proofs.Common.{ℕ, ◌+◌, pos, List, [], ◌∷◌, ◌++◌, Bool, true, false, Option, Some, None}
+use Rattle.std.proofs.Common.{refl, ℕ, ◌+◌, pos, List, [], ◌∷◌, ◌++◌, Bool, true, false, Option, Some, None}
 use Rattle.std.specs.Prelude.{neg_ℤ, ◌-ℤ◌, not, slice_get, codes}
 use Rattle.js_tree.specs.declared.place.Place.{Place}
 use Rattle.js_tree.specs.declared.operators.BinaryOp.{BinaryOp}
@@ -182,7 +182,7 @@ module _ {scoping : Scoping} (words : WordsEnd scoping) (functions : List Functi
   constructed_by-ends k id vs p = throw_type_error-ends (codes "not a constructor") p
 
   constructed-ends : (v : Value) (vs : List Value) (p : Place) → Ends (def.constructed scoping functions go v vs p)
-  constructed-ends (value.Object id) vs p = reads (λ s. constructed_by-ends (kind_in (object_at s.heap id)) id vs p)
+  constructed-ends (value.Object id) vs p = reads (λ m s. refl) (λ s. constructed_by-ends (kind_in (object_at s.heap id)) id vs p)
   constructed-ends v vs p = throw_type_error-ends (codes "not a constructor") p
 
   new_value-ends : (cx : Context) (p : Place) (callee : ExpressionTree) (es : Expressions)
@@ -211,7 +211,7 @@ module _ {scoping : Scoping} (words : WordsEnd scoping) (functions : List Functi
       → Ends (def.unary_value scoping functions go cx p o e)
   unary_value-ends cx p unary.Delete e = deleted-ends cx p e
   unary_value-ends cx p unary.Void e = visit-ends cx e then gives value.Undefined
-  unary_value-ends cx p unary.TypeOf e = type_of-ends cx e onto (λ v. reads (λ s. gives (value.Text (type_text s.heap v))))
+  unary_value-ends cx p unary.TypeOf e = type_of-ends cx e onto (λ v. reads (λ m s. refl) (λ s. gives (value.Text (type_text s.heap v))))
   unary_value-ends cx p unary.Plus e =
       visit-ends cx e onto (λ v. to_number-ends (calls go) calls-end v p onto (λ n. gives (value.Number n)))
   unary_value-ends cx p unary.Minus e =

@@ -1,5 +1,5 @@
 -- What natives do that call nothing has one end and asks nobody.
-use Rattle.std.proofs.Common.{ℕ, List, [], ◌∷◌, true, false, Option, Some, None, Result, Ok, Err, map}
+use Rattle.std.proofs.Common.{refl, ℕ, List, [], ◌∷◌, true, false, Option, Some, None, Result, Ok, Err, map}
 use Rattle.std.specs.Prelude.{codes, is_some}
 use Rattle.js_tree.specs.declared.place.Place.{Place}
 use Rattle.js_pattern_reader.specs.Literal.{Literal}
@@ -63,11 +63,11 @@ object_of-ends (value.Number n) place = halts _
 object_of-ends (value.Text t) place = halts _
 
 keys_value-ends : (v : Value) (place : Place) → Ends (def.keys_value v place)
-keys_value-ends (value.Object id) place = reads (λ s. gives_texts-ends (def.keys_in s.heap (value.Object id)) place)
+keys_value-ends (value.Object id) place = reads (λ m s. refl) (λ s. gives_texts-ends (def.keys_in s.heap (value.Object id)) place)
 keys_value-ends v place = throw_type_error-ends (codes "not an object") place
 
 has_own-ends : (v : Value) (name : List ℕ) (place : Place) → Ends (def.has_own v name place)
-has_own-ends (value.Object id) name place = reads (λ s. is_there-ends (own_found_in (object_at s.heap id) name) place)
+has_own-ends (value.Object id) name place = reads (λ m s. refl) (λ s. is_there-ends (own_found_in (object_at s.heap id) name) place)
 has_own-ends v name place = gives (value.Bool (is_some (own_of v name)))
 
 -- ---- arrays
@@ -83,7 +83,7 @@ array_end-ends place (Ok x) = with_heap-ends x.1 then given-ends x.0 place
 array_end-ends place (Err e) = fails _ place
 
 array_work-ends : (m : ArrayMethod) (vs : List Value) (place : Place) → Ends (def.array_work m vs place)
-array_work-ends m (value.Object id ∷ vs) place = reads (λ s. array_end-ends place (array_result m s.heap id vs))
+array_work-ends m (value.Object id ∷ vs) place = reads (λ m s. refl) (λ s. array_end-ends place (array_result m s.heap id vs))
 array_work-ends m vs place = gives value.Undefined
 
 -- ---- texts
@@ -150,11 +150,11 @@ plain_work-ends plain.Error vs place = make_error-ends (error_prototype plain.Er
 plain_work-ends plain.TypeError vs place = make_error-ends (error_prototype plain.TypeError) (argument 0 vs) place
 plain_work-ends plain.RangeError vs place = make_error-ends (error_prototype plain.RangeError) (argument 0 vs) place
 plain_work-ends plain.ReferenceError vs place = make_error-ends (error_prototype plain.ReferenceError) (argument 0 vs) place
-plain_work-ends plain.ObjectToString vs place = reads (λ s. gives_text-ends (def.class_in s.heap (argument 0 vs)) place)
+plain_work-ends plain.ObjectToString vs place = reads (λ m s. refl) (λ s. gives_text-ends (def.class_in s.heap (argument 0 vs)) place)
 plain_work-ends plain.ObjectValueOf vs place = given-ends (argument 0 vs) place
 plain_work-ends plain.HasOwnProperty vs place = has_own-ends (argument 0 vs) (text_of (argument 1 vs)) place
 plain_work-ends plain.Keys vs place = keys_value-ends (argument 0 vs) place
-plain_work-ends plain.IsArray vs place = reads (λ s. gives _)
+plain_work-ends plain.IsArray vs place = reads (λ m s. refl) (λ s. gives _)
 plain_work-ends plain.FromCharCode vs place = gives_text-ends (map def.unit_of vs) place
 plain_work-ends plain.IsNaN vs place = gives _
 plain_work-ends plain.NumberValueOf vs place = gives (argument 0 vs)
@@ -163,4 +163,4 @@ plain_work-ends plain.BooleanValueOf vs place = gives (argument 0 vs)
 plain_work-ends (plain.TextMethod m) vs place = text_work-ends m vs place
 plain_work-ends (plain.NumberMethod m) vs place = number_work-ends m vs place
 plain_work-ends (plain.ArrayMethod m) vs place = array_work-ends m vs place
-plain_work-ends plain.PatternToString vs place = reads (λ s. pattern_text-ends (def.literal_in s.heap (argument 0 vs)) place)
+plain_work-ends plain.PatternToString vs place = reads (λ m s. refl) (λ s. pattern_text-ends (def.literal_in s.heap (argument 0 vs)) place)

@@ -1,5 +1,5 @@
 -- Natives have one end and ask for lookup names alone, where calls do.
-use Rattle.std.proofs.Common.{ℕ, zero, suc, List, [], ◌∷◌, ◌++◌, length, Bool, true, false, Option, Some, None}
+use Rattle.std.proofs.Common.{refl, ℕ, zero, suc, List, [], ◌∷◌, ◌++◌, length, Bool, true, false, Option, Some, None}
 use Rattle.std.specs.Prelude.{codes, not, ◌-◌}
 use Rattle.std.specs.Fmt.{decimal}
 use Rattle.js_tree.specs.declared.place.Place.{Place}
@@ -47,10 +47,10 @@ tested-ends : (n : Native) (c : Conversion) (v : Value) (place : Place) → Ends
 tested-ends n conversion.ThisText v place = unless_wrong-ends (is_text v) place
 tested-ends n conversion.ThisNumber v place = unless_wrong-ends (is_number v) place
 tested-ends n conversion.ThisBoolean v place = unless_wrong-ends (def.is_boolean v) place
-tested-ends n conversion.ThisArray v place = reads (λ s. unless_left_out-ends (is_array s.heap v) n place)
-tested-ends n conversion.ThisPattern v place = reads (λ s. unless_wrong-ends (is_pattern s.heap v) place)
-tested-ends n conversion.Pattern v place = reads (λ s. unless_left_out-ends (is_pattern s.heap v) n place)
-tested-ends n conversion.Replacement v place = reads (λ s. unless_left_out-ends (not (is_callable s.heap v)) n place)
+tested-ends n conversion.ThisArray v place = reads (λ m s. refl) (λ s. unless_left_out-ends (is_array s.heap v) n place)
+tested-ends n conversion.ThisPattern v place = reads (λ m s. refl) (λ s. unless_wrong-ends (is_pattern s.heap v) place)
+tested-ends n conversion.Pattern v place = reads (λ m s. refl) (λ s. unless_left_out-ends (is_pattern s.heap v) n place)
+tested-ends n conversion.Replacement v place = reads (λ m s. refl) (λ s. unless_left_out-ends (not (is_callable s.heap v)) n place)
 tested-ends n c v place = gives tt
 
 position_of-ends : (n : Numeric) (place : Place) → Ends (def.position_of n place)
@@ -91,14 +91,14 @@ module _ (call : Call) (call-ends : CallsEnd call) where
       onto (λ t. joined_from-ends left count array (texts ++ t ∷ []) separator place))
 
   joined_value-ends : (v : Value) (separator : List ℕ) (place : Place) → Ends (def.joined_value call v separator place)
-  joined_value-ends (value.Object array) separator place = reads (λ s.
+  joined_value-ends (value.Object array) separator place = reads (λ m s. refl) (λ s.
       joined_from-ends (length_of (object_at s.heap array)) (length_of (object_at s.heap array)) array [] separator place)
   joined_value-ends v separator place = gives value.Undefined
 
   array_text-ends : (this : Value) (separator : List ℕ) (handed : List Value) (place : Place)
       → Ends (def.array_text call this separator handed place)
   array_text-ends this separator handed place =
-      reads (λ s. charges-ends (elements_walk s.heap handed) place) then joined_value-ends this separator place
+      reads (λ m s. refl) (λ s. charges-ends (elements_walk s.heap handed) place) then joined_value-ends this separator place
 
   -- ---- the text of an error
 
@@ -125,13 +125,13 @@ module _ (call : Call) (call-ends : CallsEnd call) where
       → Ends (def.pattern_done call n vs handed place)
   pattern_done-ends n vs handed place =
       charges-ends (values_walk (walk_of (native.Pattern n)) vs handed) place
-      then reads (λ s. begin_of-ends (read_by n s.heap vs) place onto (λ begin. pattern_work-ends n vs begin place))
+      then reads (λ m s. refl) (λ s. begin_of-ends (read_by n s.heap vs) place onto (λ begin. pattern_work-ends n vs begin place))
 
   -- ---- a call
 
   native_done-ends : (n : Native) (vs handed : List Value) (place : Place) → Ends (def.native_done call n vs handed place)
   native_done-ends (native.Plain n) vs handed place =
-      reads (λ s. charges-ends (plain_walk n s.heap vs (length handed)) place) then plain_work-ends n vs place
+      reads (λ m s. refl) (λ s. charges-ends (plain_walk n s.heap vs (length handed)) place) then plain_work-ends n vs place
   native_done-ends (native.Pac f) vs handed place = pac_done-ends f vs place
   native_done-ends (native.Pattern n) vs handed place = pattern_done-ends n vs (length handed) place
   native_done-ends native.ErrorToString vs handed place = error_text-ends (argument 0 vs) place
@@ -139,7 +139,7 @@ module _ (call : Call) (call-ends : CallsEnd call) where
   native_done-ends native.ArrayToString vs handed place = array_text-ends (argument 0 vs) (codes ",") handed place
 
   primitive_or_kept-ends : (c : Conversion) (v : Value) (place : Place) → Ends (def.primitive_or_kept call c v place)
-  primitive_or_kept-ends c v place = reads (λ s. either (def.is_kept s.heap c v) (gives v)
+  primitive_or_kept-ends c v place = reads (λ m s. refl) (λ s. either (def.is_kept s.heap c v) (gives v)
       (to_primitive-ends call call-ends (def.methods_for c) v place onto (λ p. settled-ends c p place)))
 
   converted-ends : (n : Native) (c : Conversion) (v : Value) (place : Place) → Ends (def.converted call n c v place)

@@ -1,5 +1,5 @@
 -- Properties of values, and functions, have one end and ask for lookup names alone.
-use Rattle.std.proofs.Common.{ℕ, suc, pos, List, [], ◌∷◌, ◌++◌, Bool, true, false, Option, Some, None, Result, Ok, Err}
+use Rattle.std.proofs.Common.{refl, ℕ, suc, pos, List, [], ◌∷◌, ◌++◌, Bool, true, false, Option, Some, None, Result, Ok, Err}
 use Rattle.std.specs.Prelude.{codes}
 use Rattle.std.specs.Fmt.{decimal}
 use Rattle.js_tree.specs.declared.place.Place.{Place}
@@ -29,7 +29,7 @@ found_value-ends otherwise (found.LeftOut name) place = halts _
 
 get_from-ends : (holder : Option ObjectId) (name : List ℕ) (place : Place) → Ends (get_from holder name place)
 get_from-ends None name place = throw_type_error-ends (codes "not an object") place
-get_from-ends (Some holder) name place = reads (λ s. found_value-ends Undefined (found_of s.heap holder name) place)
+get_from-ends (Some holder) name place = reads (λ m s. refl) (λ s. found_value-ends Undefined (found_of s.heap holder name) place)
 
 get_or-ends : (own : Option Value) (base : Value) (name : List ℕ) (place : Place) → Ends (get_or own base name place)
 get_or-ends (Some v) base name place = gives v
@@ -49,7 +49,7 @@ written-ends place (Err heap.BadLength) = throw_error-ends built_in.RangeErrorPr
 written-ends place (Err e) = fails _ place
 
 pub put_on-ends : (id : ObjectId) (name : List ℕ) (v : Value) (place : Place) → Ends (put_on id name v place)
-put_on-ends id name v place = reads (λ s. either (is_fixed s.heap id name) (gives tt) (written-ends place (stored s.heap id name v (property_after v))))
+put_on-ends id name v place = reads (λ m s. refl) (λ s. either (is_fixed s.heap id name) (gives tt) (written-ends place (stored s.heap id name v (property_after v))))
 
 pub put-ends : (base : Value) (name : List ℕ) (v : Value) (place : Place) → Ends (put base name v place)
 put-ends (Object id) name v place = put_on-ends id name v place
@@ -60,10 +60,10 @@ truth_after-ends result = with_heap-ends result.1 then gives (Truth result.0)
 
 deleted_unless-ends : (f : Found) (id : ObjectId) (name : List ℕ) (place : Place) → Ends (deleted_unless f id name place)
 deleted_unless-ends (found.LeftOut left_out) id name place = halts _
-deleted_unless-ends f id name place = reads (λ s. truth_after-ends (deleted_of s.heap id name))
+deleted_unless-ends f id name place = reads (λ m s. refl) (λ s. truth_after-ends (deleted_of s.heap id name))
 
 pub delete_property-ends : (base : Value) (name : List ℕ) (place : Place) → Ends (delete_property base name place)
-delete_property-ends (Object id) name place = reads (λ s. deleted_unless-ends (own_found_in (object_at s.heap id) name) id name place)
+delete_property-ends (Object id) name place = reads (λ m s. refl) (λ s. deleted_unless-ends (own_found_in (object_at s.heap id) name) id name place)
 delete_property-ends base name place = gives _
 
 pub is_there-ends : (f : Found) (place : Place) → Ends (is_there f place)
@@ -72,10 +72,10 @@ is_there-ends (found.Value v) place = gives _
 is_there-ends (found.LeftOut name) place = halts _
 
 pub has_property-ends : (id : ObjectId) (name : List ℕ) (place : Place) → Ends (has_property id name place)
-has_property-ends id name place = reads (λ s. is_there-ends (found_of s.heap id name) place)
+has_property-ends id name place = reads (λ m s. refl) (λ s. is_there-ends (found_of s.heap id name) place)
 
 pub stands_among-ends : (id : ObjectId) (v : Value) (place : Place) → Ends (stands_among id v place)
-stands_among-ends id (Object prototype) place = reads (λ s. gives _)
+stands_among-ends id (Object prototype) place = reads (λ m s. refl) (λ s. gives _)
 stands_among-ends id v place = throw_type_error-ends (codes "not an object") place
 
 -- ---- the global object

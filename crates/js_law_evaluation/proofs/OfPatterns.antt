@@ -1,5 +1,5 @@
 -- What is done with patterns has one end and asks nobody.
-use Rattle.std.proofs.Common.{ℕ, ℤ, pos, List, [], ◌∷◌, map, length, Bool, true, false, Option, Some, None, Result, Ok, Err}
+use Rattle.std.proofs.Common.{refl, ℕ, ℤ, pos, List, [], ◌∷◌, map, length, Bool, true, false, Option, Some, None, Result, Ok, Err}
 use Rattle.std.specs.Prelude.{codes, is_some, nat_lt}
 use Rattle.js_tree.specs.declared.place.Place.{Place}
 use Rattle.js_pattern.specs.declared.span.Span.{Span}
@@ -152,7 +152,7 @@ with_text-ends v place what has = test_text-ends (text_of v) place then has (tex
 with_pattern-ends : (pattern text : Value) (place : Place) (what : ObjectId → Literal → List ℕ → Does Value) (otherwise : Does Value)
     → ((id : ObjectId) (l : Literal) (text : List ℕ) → Ends (what id l text)) → Ends otherwise
     → Ends (def.with_pattern pattern text place what otherwise)
-with_pattern-ends pattern text place what otherwise has has_other = reads (λ s.
+with_pattern-ends pattern text place what otherwise has has_other = reads (λ m s. refl) (λ s.
     on_pattern-ends pattern (literal_in s.heap pattern) (λ id l. def.with_text text place (what id l)) otherwise
     (λ id l. with_text-ends text place (what id l) (has id l)) has_other)
 

@@ -1,5 +1,5 @@
 -- Statements have one end and ask for lookup names alone, where the words of scopes and the parts within do.
-use Rattle.std.proofs.Common.{ℕ, zero, suc, List, [], ◌∷◌, true}
+use Rattle.std.proofs.Common.{refl, ℕ, zero, suc, List, [], ◌∷◌, true}
 use Rattle.std.specs.Prelude.{length, map}
 use Rattle.std.specs.Fmt.{decimal}
 use Rattle.std.specs.List.{range_with_len}
@@ -34,11 +34,11 @@ turns-ends {body} {next} has has_next = turns value.Undefined is_here body next 
 -- ---- what visits no part
 
 is_listed-ends : (v : Value) (name : List ℕ) → Ends (def.is_listed v name)
-is_listed-ends (value.Object id) name = reads (λ s. gives (def.is_found (found_of s.heap id name)))
+is_listed-ends (value.Object id) name = reads (λ m s. refl) (λ s. gives (def.is_found (found_of s.heap id name)))
 is_listed-ends v name = gives true
 
 listed_names-ends : (v : Value) → Ends (def.listed_names v)
-listed_names-ends (value.Object id) = reads (λ s. gives (keys_of s.heap id))
+listed_names-ends (value.Object id) = reads (λ m s. refl) (λ s. gives (keys_of s.heap id))
 listed_names-ends (value.Text t) = gives (map decimal (range_with_len 0 (length t)))
 listed_names-ends v = gives []
 
@@ -120,7 +120,7 @@ module _ {scoping : Scoping} (words : WordsEnd scoping) (functions : List Functi
 
   for_loop-ends : (cx : Context) (p : Place) (start : StartTree) (c step : OptionalExpression) (body : StatementTree)
       → Ends (def.for_loop scoping functions go cx p start c step body)
-  for_loop-ends cx p start c step body = started-ends cx start then reads (λ s. for_turns-ends cx (suc s.fuel) p c step body)
+  for_loop-ends cx p start c step body = started-ends cx start then reads (λ m s. refl) (λ s. for_turns-ends cx (suc s.fuel) p c step body)
 
   -- ---- `for`-`in`
 
@@ -204,8 +204,8 @@ module _ {scoping : Scoping} (words : WordsEnd scoping) (functions : List Functi
   statement_node-ends cx (Debugger p) = nothing-ends
   statement_node-ends cx (Var p ds) = variables_from-ends cx p ds
   statement_node-ends cx (If p bs last) = branches_from-ends cx bs last
-  statement_node-ends cx (DoWhile p s c) = reads (λ t. do_turns-ends cx (suc t.fuel) p s c)
-  statement_node-ends cx (While p c s) = reads (λ t. while_turns-ends cx (suc t.fuel) p c s)
+  statement_node-ends cx (DoWhile p s c) = reads (λ m t. refl) (λ t. do_turns-ends cx (suc t.fuel) p s c)
+  statement_node-ends cx (While p c s) = reads (λ m t. refl) (λ t. while_turns-ends cx (suc t.fuel) p c s)
   statement_node-ends cx (For p start c step s) = for_loop-ends cx p start c step s
   statement_node-ends cx (ForIn p target e s) = for_in_loop-ends cx p target e s
   statement_node-ends cx (Continue p) = stops _

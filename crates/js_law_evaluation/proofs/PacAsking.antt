@@ -19,7 +19,10 @@ use Rattle.pac_functions.specs.declared.call.PacFunction.TheVariants as function
 use Rattle.pac_functions.specs.Texts.{or_undefined, text_in}
 use Rattle.pac_functions.specs.Addresses.{AfterAnswer, AfterAddress, replied, ipv4_in, ipv6_in, named_then, read_then, text_then, is_nothing, value_then, resolved, quad_result, is_address_in}
 use Rattle.pac_functions.specs.Families.{AfterText, joined, plain_text, asked_then, written_then, both_resolved}
-use Rattle.pac_functions.specs.Call.{gives, pac_call}
+use Rattle.pac_functions.specs.Call.{gives, by_clock, calendar_args, pac_call}
+use Rattle.pac_calendar.specs.Dates.{is_in_date_range}
+use Rattle.pac_calendar.specs.Times.{is_in_time_range}
+use Rattle.pac_calendar.specs.Weekdays.{is_in_weekday_range}
 use Rattle.js_law_evaluation.specs.Laws.{AsksLookupNames}
 
 module _ (next : AfterAnswer) (rest : (told : Answer) → AsksLookupNames (next told)) where
@@ -78,7 +81,13 @@ address-asks : (value_of : Option ℕ → Value) (args : List Value)
 unfolding AsksLookupNames
 address-asks value_of args = resolved-asks (λ address. gives (value_of address)) (λ address. tt) args
 
-pub call-asks : (f : PacFunction) (args : List Value) (now : Moments) (my_ip : ℕ)
+-- a call that depends on a clock
+range-asks : (now : Option Moments) (is_in : Moments → Bool) → AsksLookupNames (by_clock now is_in)
+unfolding AsksLookupNames
+range-asks None is_in = tt
+range-asks (Some now) is_in = tt
+
+pub call-asks : (f : PacFunction) (args : List Value) (now : Option Moments) (my_ip : ℕ)
     → AsksLookupNames (pac_call f args now my_ip)
 unfolding AsksLookupNames
 call-asks function.DnsResolve args now my_ip = address-asks quad_result args
@@ -87,4 +96,7 @@ call-asks function.IsInNet args now my_ip =
     address-asks (λ address. value.Bool (is_address_in address (quad_of (text_in args 1)) (quad_of (text_in args 2)))) args
 call-asks function.DnsResolveEx args now my_ip = text-asks value.Text args
 call-asks function.IsResolvableEx args now my_ip = text-asks (λ text. value.Bool (not (length text == 0))) args
+call-asks function.WeekdayRange args now my_ip = range-asks now (λ m. is_in_weekday_range m (calendar_args args))
+call-asks function.DateRange args now my_ip = range-asks now (λ m. is_in_date_range m (calendar_args args))
+call-asks function.TimeRange args now my_ip = range-asks now (λ m. is_in_time_range m (calendar_args args))
 call-asks f args now my_ip = tt

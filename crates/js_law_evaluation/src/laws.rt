@@ -1,6 +1,6 @@
 // Laws over the definition of evaluation, each of both ways in which a run has its scopes.
 ghost use Rattle.js_evaluation.specs.Scoping.{by_names, by_slots};
-ghost use Rattle.js_law_evaluation.specs.Laws.{EvaluationHasOneEnd, RunsAskLookupNames, RunsHaveOneEnd};
+ghost use Rattle.js_law_evaluation.specs.Laws.{EvaluationHasOneEnd, LoadsAtEachMoment, RunsAskLookupNames, RunsHaveOneEnd};
 
 /// Each part of a script, with each number of parts that may still be opened, comes to one end, state, alerts and names
 /// asked, whatever comes after it. So does each expression up to what it refers to.
@@ -19,4 +19,9 @@ pub fn runs_have_one_end()
 pub fn runs_ask_lookup_names()
     ensures names { RunsAskLookupNames by_names }
     ensures slots { RunsAskLookupNames by_slots }
+{}
+
+/// A load to which no clock is shown, and which asks nothing and has no fault, is the load at each moment.
+pub fn loads_at_each_moment()
+    ensures { LoadsAtEachMoment }
 {}

@@ -3,7 +3,7 @@ use Rattle.std.proofs.Common.{ℕ, List, ◌≡◌, ap}
 use Rattle.js_tree.specs.declared.place.Place.{Place}
 use Rattle.heap_values.specs.declared.value.Value.{Value}
 use Rattle.pac_functions.specs.declared.call.PacFunction.{PacFunction}
-use Rattle.pac_functions.specs.Addresses.{PacEnd, Gives, AsksTooMany}
+use Rattle.pac_functions.specs.Addresses.{PacEnd, Gives, AsksTooMany, NeedsClock}
 use Rattle.pac_functions.specs.Call.{pac_call}
 use Rattle.run_trees.specs.RunTree.{RunTree, Done, Ask, Tell}
 use Rattle.js_evaluation.specs.State.{RunState}
@@ -25,6 +25,7 @@ module _ {setting : ℕ → Setting} where
   pac_end-agrees : {z : RunState} (place : Place) (end : PacEnd) → Agrees setting z (pac_end place end) (pac_end place end)
   pac_end-agrees place (Gives v) = given-agrees v place
   pac_end-agrees place AsksTooMany = fails _ place
+  pac_end-agrees place NeedsClock = fails _ place
 
   pub pac_work-agrees : {z : RunState} (f : PacFunction) (vs : List Value) (place : Place)
       → Agrees setting z (pac_work f vs place) (pac_work f vs place)

@@ -56,6 +56,6 @@ fn named_function<'p>(machine: &mut Machine<'p>, number: u32, arity: u32, place:
     let scope = make_scope(machine.alloc, heap, 1, around, place)?;
     let value = closure(machine.alloc, heap, number, arity, scope, place)?;
     let named = value.copy(machine.alloc)?;
-    heap.write_slot(scope, 0, named);
+    heap.write_slot(machine.alloc, scope, 0, named)?;
     Ok(Now::Back(Ok(value)))
 }

@@ -12,20 +12,24 @@ use Rattle.pac_names.specs.Names.{Name, lookup_name_of, lookup_name6_of}
 use Rattle.pac_names.specs.Quads.{quad_of}
 use Rattle.pac_ext.specs.Reading.{ipv6_of}
 use Rattle.pac_calendar.specs.declared.moment.Moments.{Moments}
+use Rattle.pac_calendar.specs.Dates.{is_in_date_range}
+use Rattle.pac_calendar.specs.Times.{is_in_time_range}
+use Rattle.pac_calendar.specs.Weekdays.{is_in_weekday_range}
 use Rattle.js_host.specs.Answers.{known_answer}
 use Rattle.js_host.specs.Seen.{Seen, Reply, Answered, Refused, Replies, lookup_by, is_one_too_many, with_name}
 use Rattle.pac_functions.specs.declared.call.PacFunction.{PacFunction}
 use Rattle.pac_functions.specs.declared.call.PacFunction.TheVariants as function
-use Rattle.pac_functions.specs.Addresses.{PacEnd, Gives, AsksTooMany, AfterAnswer, AfterAddress, replied, ipv4_in, ipv6_in, named_then, read_then, text_then, is_nothing, resolved, quad_result, is_address_in}
+use Rattle.pac_functions.specs.Addresses.{PacEnd, Gives, AsksTooMany, NeedsClock, AfterAnswer, AfterAddress, replied, ipv4_in, ipv6_in, named_then, read_then, text_then, is_nothing, resolved, quad_result, is_address_in}
 use Rattle.pac_functions.specs.Families.{AfterText, joined, plain_text, asked_then, written_then, both_resolved}
-use Rattle.pac_functions.specs.Call.{pac_call, gives as give}
+use Rattle.pac_functions.specs.Call.{pac_call, by_clock, calendar_args, gives as give}
 use Rattle.pac_functions.specs.Texts.{or_undefined, text_in}
 use Rattle.js_convert.specs.Texts.{text_of}
 use Rattle.run_trees.specs.RunTree.{RunTree, Walked, Ended, Stopped, with_lookup, walk}
 use Rattle.js_evaluation.specs.Handed.{gives}
 use Rattle.js_evaluation.specs.PacNatives.{pac_end, pac_work}
 use Rattle.js_evaluation.proofs.Following.{walked_on, walks_on}
-use Rattle.js_evaluation.specs.State.{AfterValue}
+use Rattle.js_evaluation.specs.State.{AfterValue, Does, fault}
+use Rattle.js_evaluation.specs.declared.fault.FaultCode.{FaultCode}
 use Rattle.js_frames.specs.Rests.{giving}
 use Rattle.heap_steps.specs.declared.halt.Halt.{Halt}
 use Rattle.heap_steps.specs.declared.halt.Halt.TheVariants as halt
@@ -94,53 +98,65 @@ module _ (next : AfterText) (quiet : Quiet next) where
   quiet_both : (vs : List Value) (seen : Seen) → alerts_of (walk (both_resolved vs next) seen) ≡ seen.alerts
   quiet_both vs seen = quiet_written (plain_text (quad_of (text_in vs 0)) (ipv6_of (text_in vs 0))) (text_in vs 0) seen
 
+-- a range tells nothing
+quiet_range : (now : Option Moments) (is_in : Moments → Bool) (seen : Seen) → alerts_of (walk (by_clock now is_in) seen) ≡ seen.alerts
+unfolding walk
+quiet_range None is_in seen = refl
+quiet_range (Some m) is_in seen = refl
+
 -- a call keeps what it tells, and tells nothing else
-keeps : (f : PacFunction) (vs : List Value) (moments : Moments) (my_ip : ℕ) (seen : Seen)
-    → alerts_of (walk (pac_call f vs moments my_ip) seen) ≡ alerts_after f vs seen.alerts
+keeps : (f : PacFunction) (vs : List Value) (now : Option Moments) (my_ip : ℕ) (seen : Seen)
+    → alerts_of (walk (pac_call f vs now my_ip) seen) ≡ alerts_after f vs seen.alerts
 unfolding walk
-keeps function.IsPlainHostName vs moments my_ip seen = refl
-keeps function.DnsDomainIs vs moments my_ip seen = refl
-keeps function.LocalHostOrDomainIs vs moments my_ip seen = refl
-keeps function.DnsDomainLevels vs moments my_ip seen = refl
-keeps function.DnsResolve vs moments my_ip seen = quiet_resolved (λ address. give (quad_result address)) (λ address after. refl) vs seen
-keeps function.IsResolvable vs moments my_ip seen = quiet_resolved (λ address. give (value.Bool (is_some address))) (λ address after. refl) vs seen
-keeps function.IsInNet vs moments my_ip seen =
+keeps function.IsPlainHostName vs now my_ip seen = refl
+keeps function.DnsDomainIs vs now my_ip seen = refl
+keeps function.LocalHostOrDomainIs vs now my_ip seen = refl
+keeps function.DnsDomainLevels vs now my_ip seen = refl
+keeps function.DnsResolve vs now my_ip seen = quiet_resolved (λ address. give (quad_result address)) (λ address after. refl) vs seen
+keeps function.IsResolvable vs now my_ip seen = quiet_resolved (λ address. give (value.Bool (is_some address))) (λ address after. refl) vs seen
+keeps function.IsInNet vs now my_ip seen =
     quiet_resolved (λ address. give (value.Bool (is_address_in address (quad_of (text_in vs 1)) (quad_of (text_in vs 2))))) (λ address after. refl) vs seen
-keeps function.MyIpAddress vs moments my_ip seen = refl
-keeps function.ShExpMatch vs moments my_ip seen = refl
-keeps function.Alert vs moments my_ip seen = refl
-keeps function.WeekdayRange vs moments my_ip seen = refl
-keeps function.DateRange vs moments my_ip seen = refl
-keeps function.TimeRange vs moments my_ip seen = refl
-keeps function.DnsResolveEx vs moments my_ip seen = quiet_both (λ text. give (value.Text text)) (λ text after. refl) vs seen
-keeps function.IsResolvableEx vs moments my_ip seen = quiet_both (λ text. give (value.Bool (not (length text == 0)))) (λ text after. refl) vs seen
-keeps function.IsInNetEx vs moments my_ip seen = refl
+keeps function.MyIpAddress vs now my_ip seen = refl
+keeps function.ShExpMatch vs now my_ip seen = refl
+keeps function.Alert vs now my_ip seen = refl
+keeps function.WeekdayRange vs now my_ip seen = quiet_range now (λ m. is_in_weekday_range m (calendar_args vs)) seen
+keeps function.DateRange vs now my_ip seen = quiet_range now (λ m. is_in_date_range m (calendar_args vs)) seen
+keeps function.TimeRange vs now my_ip seen = quiet_range now (λ m. is_in_time_range m (calendar_args vs)) seen
+keeps function.DnsResolveEx vs now my_ip seen = quiet_both (λ text. give (value.Text text)) (λ text after. refl) vs seen
+keeps function.IsResolvableEx vs now my_ip seen = quiet_both (λ text. give (value.Bool (not (length text == 0)))) (λ text after. refl) vs seen
+keeps function.IsInNetEx vs now my_ip seen = refl
 
-module _ (f : PacFunction) (vs : List Value) (moments : Moments) (my_ip : ℕ) (before : Seen) where
-  pub keeps_of : (end : PacEnd) (after : Seen) → walk (pac_call f vs moments my_ip) before ≡ Ended end after
+module _ (f : PacFunction) (vs : List Value) (now : Option Moments) (my_ip : ℕ) (before : Seen) where
+  pub keeps_of : (end : PacEnd) (after : Seen) → walk (pac_call f vs now my_ip) before ≡ Ended end after
       → after.alerts ≡ alerts_after f vs before.alerts
-  keeps_of end after e = sym (ap alerts_of e) ∙ keeps f vs moments my_ip before
+  keeps_of end after e = sym (ap alerts_of e) ∙ keeps f vs now my_ip before
 
--- a call that asks too many names tells nothing
-asks_quietly : (f : PacFunction) (vs : List Value) (moments : Moments) (my_ip : ℕ) (before after : Seen)
-    → walk (pac_call f vs moments my_ip) before ≡ Ended AsksTooMany after → after.alerts ≡ before.alerts
+-- a call that gives no value tells nothing
+abbrev NoValue : PacEnd → Type 0
+NoValue (Gives v) = ⊥
+NoValue end = Unit {0}
+
+ends_quietly : (f : PacFunction) (vs : List Value) (now : Option Moments) (my_ip : ℕ) (before after : Seen) (end : PacEnd)
+    → NoValue end → walk (pac_call f vs now my_ip) before ≡ Ended end after → after.alerts ≡ before.alerts
 unfolding walk
-asks_quietly function.Alert vs moments my_ip before after e = cc
-asks_quietly function.IsPlainHostName vs moments my_ip before after e = cc
-asks_quietly function.DnsDomainIs vs moments my_ip before after e = cc
-asks_quietly function.LocalHostOrDomainIs vs moments my_ip before after e = cc
-asks_quietly function.DnsDomainLevels vs moments my_ip before after e = cc
-asks_quietly function.DnsResolve vs moments my_ip before after e = keeps_of function.DnsResolve vs moments my_ip before AsksTooMany after e
-asks_quietly function.IsResolvable vs moments my_ip before after e = keeps_of function.IsResolvable vs moments my_ip before AsksTooMany after e
-asks_quietly function.IsInNet vs moments my_ip before after e = keeps_of function.IsInNet vs moments my_ip before AsksTooMany after e
-asks_quietly function.MyIpAddress vs moments my_ip before after e = cc
-asks_quietly function.ShExpMatch vs moments my_ip before after e = cc
-asks_quietly function.WeekdayRange vs moments my_ip before after e = cc
-asks_quietly function.DateRange vs moments my_ip before after e = cc
-asks_quietly function.TimeRange vs moments my_ip before after e = cc
-asks_quietly function.DnsResolveEx vs moments my_ip before after e = keeps_of function.DnsResolveEx vs moments my_ip before AsksTooMany after e
-asks_quietly function.IsResolvableEx vs moments my_ip before after e = keeps_of function.IsResolvableEx vs moments my_ip before AsksTooMany after e
-asks_quietly function.IsInNetEx vs moments my_ip before after e = cc
+ends_quietly function.Alert vs now my_ip before after (Gives v) none e = absurd none
+ends_quietly function.Alert vs now my_ip before after AsksTooMany none e = cc
+ends_quietly function.Alert vs now my_ip before after NeedsClock none e = cc
+ends_quietly function.IsPlainHostName vs now my_ip before after end none e = keeps_of function.IsPlainHostName vs now my_ip before end after e
+ends_quietly function.DnsDomainIs vs now my_ip before after end none e = keeps_of function.DnsDomainIs vs now my_ip before end after e
+ends_quietly function.LocalHostOrDomainIs vs now my_ip before after end none e = keeps_of function.LocalHostOrDomainIs vs now my_ip before end after e
+ends_quietly function.DnsDomainLevels vs now my_ip before after end none e = keeps_of function.DnsDomainLevels vs now my_ip before end after e
+ends_quietly function.DnsResolve vs now my_ip before after end none e = keeps_of function.DnsResolve vs now my_ip before end after e
+ends_quietly function.IsResolvable vs now my_ip before after end none e = keeps_of function.IsResolvable vs now my_ip before end after e
+ends_quietly function.IsInNet vs now my_ip before after end none e = keeps_of function.IsInNet vs now my_ip before end after e
+ends_quietly function.MyIpAddress vs now my_ip before after end none e = keeps_of function.MyIpAddress vs now my_ip before end after e
+ends_quietly function.ShExpMatch vs now my_ip before after end none e = keeps_of function.ShExpMatch vs now my_ip before end after e
+ends_quietly function.WeekdayRange vs now my_ip before after end none e = keeps_of function.WeekdayRange vs now my_ip before end after e
+ends_quietly function.DateRange vs now my_ip before after end none e = keeps_of function.DateRange vs now my_ip before end after e
+ends_quietly function.TimeRange vs now my_ip before after end none e = keeps_of function.TimeRange vs now my_ip before end after e
+ends_quietly function.DnsResolveEx vs now my_ip before after end none e = keeps_of function.DnsResolveEx vs now my_ip before end after e
+ends_quietly function.IsResolvableEx vs now my_ip before after end none e = keeps_of function.IsResolvableEx vs now my_ip before end after e
+ends_quietly function.IsInNetEx vs now my_ip before after end none e = keeps_of function.IsInNetEx vs now my_ip before end after e
 
 -- ---- what a call leaves of the run
 
@@ -203,17 +219,27 @@ module _ (f : PacFunction) (vs given : List Value) (same : given ≡ vs) (place 
             (kept ∙ ap (λ args. alerts_after f args alerts) same ∙ ap (alerts_after f vs) begun ∙ sym (keeps_of f vs m.state.now m.state.settings.my_ip before (Gives v) after ended));
       }
 
-  -- it asked one name too many
+  -- it asked one name too many, or it needs a clock
+  call_fails : (end : PacEnd) → NoValue end → (c : FaultCode) → pac_end place end ≡ fault c place
+      → over given ≡ Ended end after → alerts' ≡ alerts
+      → Calls (now.Host f vs place) m before alerts (Ok (Err (halt.Fault c place))) m' after alerts'
+  unfolding walk
+  call_fails end none c is e kept =
+      let ended = comes (Ended end after) e in
+      record {
+        goes = λ last. call_ends f vs place m last before after end ended
+            ∙ ap (λ (part : Does Value). walk (left last m (giving part)) after) is;
+        light = tt;
+        keeps = λ begun. kept ∙ begun ∙ sym (ends_quietly f vs m.state.now m.state.settings.my_ip before after end none ended);
+      }
+
   pub call_asks_too_many : over given ≡ Ended AsksTooMany after → alerts' ≡ alerts
       → Calls (now.Host f vs place) m before alerts (Ok (Err (halt.Fault code.TooManyNames place))) m' after alerts'
-  unfolding walk
-  call_asks_too_many e kept =
-      let ended = comes (Ended AsksTooMany after) e in
-      record {
-        goes = λ last. call_ends f vs place m last before after AsksTooMany ended;
-        light = tt;
-        keeps = λ begun. kept ∙ begun ∙ sym (asks_quietly f vs m.state.now m.state.settings.my_ip before after ended);
-      }
+  call_asks_too_many = call_fails AsksTooMany tt code.TooManyNames refl
+
+  pub call_needs_clock : over given ≡ Ended NeedsClock after → alerts' ≡ alerts
+      → Calls (now.Host f vs place) m before alerts (Ok (Err (halt.Fault code.Unsupported place))) m' after alerts'
+  call_needs_clock = call_fails NeedsClock tt code.Unsupported refl
 
   -- the host lacks a name
   pub call_misses : (name : Name) → over given ≡ Stopped name after → Calls (now.Host f vs place) m before alerts (Err name) m' after alerts'

@@ -34,7 +34,7 @@ pub fn call_host<'p, H: Host>(
         machine.alloc,
         function,
         values,
-        &state.now,
+        state.now,
         &state.settings,
         host,
     ) {
@@ -45,6 +45,10 @@ pub fn call_host<'p, H: Host>(
         PacAnswer::Missing(name) => Err(name),
         PacAnswer::TooMany => Ok(Err(Halt::Fault {
             code: FaultCode::TooManyNames,
+            place,
+        })),
+        PacAnswer::NoClock => Ok(Err(Halt::Fault {
+            code: FaultCode::Unsupported,
             place,
         })),
         PacAnswer::Memory => Ok(Err(Halt::Memory)),

@@ -78,7 +78,7 @@ fn handled<'p>(
     let around = machine.context.scope;
     let heap = &mut machine.state.heap;
     let scope = make_scope(machine.alloc, heap, 1, around, place)?;
-    heap.write_slot(scope, 0, thrown.value);
+    heap.write_slot(machine.alloc, scope, 0, thrown.value)?;
     let frame = StatementFrame::Handler { last };
     machine.execute_in(scope, &handler.body, Frame::Statement(frame))
 }

@@ -53,12 +53,14 @@ ghost use Rattle.utf16_text.specs.declared.limits.TheConstants.{LONGEST_TEXT};
 ghost use Rattle.object_heap.specs.declared.limits.TheConstants.{LONGEST_ARRAY, MOST_CELLS, MOST_TEXT};
 
 use crate::fresh::{make_built_ins, object_of};
+use crate::kept_literal::KeptLiteral;
 use crate::limits::{LONGEST_ARRAY, MOST_CELLS, MOST_TEXT};
 use crate::pattern_names::PatternNames;
 use heap_elements::index_name;
 use heap_objects::{Marks, NameSet, Object, Scope};
 use heap_values::{BuiltIn, Content, Found, HeapAnswer, Kind, ObjectId, Property, ScopeId, Value};
 use js_pattern_reader::PatternLiteral;
+use shared_list::{SharedList, push_both};
 use std::alloc::Global;
 use std::marker::Model;
 use utf16_text::{LONGEST_TEXT, Memory, Text, TextList};
@@ -67,9 +69,9 @@ use utf16_text::{LONGEST_TEXT, Memory, Text, TextList};
 /// the units of text made.
 #[derive(Drop)]
 pub struct Heap {
-    objects: Vec<Object>,
-    scopes: Vec<Scope>,
-    literals: Vec<PatternLiteral>,
+    objects: SharedList<Object>,
+    scopes: SharedList<Scope>,
+    literals: SharedList<KeptLiteral>,
     names: PatternNames,
     cells: u64,
     units: u64,
@@ -85,9 +87,9 @@ impl Model for Heap {
 
     ghost Value = { HeapView };
 
-    ghost view = { λ h. record { objects = h.objects.items; scopes = h.scopes.items; literals = h.literals.items; cells = h.cells; units = h.units } };
+    ghost view = { λ h. record { objects = h.objects; scopes = h.scopes; literals = h.literals; cells = h.cells; units = h.units } };
 
-    ghost invariant = { λ h. (h.cells ≤ MOST_CELLS) × (h.units ≤ MOST_TEXT) × (length h.objects.items ≤ h.cells + 1000) × (length h.scopes.items ≤ h.cells + 1) × (length h.literals.items ≤ h.cells) × (h.names ≡ pattern_names) × PrototypesAreOlder h.objects.items };
+    ghost invariant = { λ h. (h.cells ≤ MOST_CELLS) × (h.units ≤ MOST_TEXT) × (length h.objects ≤ h.cells + 1000) × (length h.scopes ≤ h.cells + 1) × (length h.literals ≤ h.cells) × (h.names ≡ pattern_names) × PrototypesAreOlder h.objects };
 }
 
 impl Heap {
@@ -95,16 +97,51 @@ impl Heap {
     pub fn new(alloc: Global) -> Result<Heap, Memory>
         ensures { IfOk result (λ heap. heap ≡ fresh_heap) }
     {
-        let objects = make_built_ins(alloc)?;
         let mut scopes = Vec::new(alloc);
         append_scope(&mut scopes, Scope::new(alloc, 0, None)?)?;
         Ok(Heap {
-            objects,
-            scopes,
-            literals: Vec::new(alloc),
+            objects: SharedList::from_vec(alloc, make_built_ins(alloc)?)?,
+            scopes: SharedList::from_vec(alloc, scopes)?,
+            literals: SharedList::from_vec(alloc, Vec::new(alloc))?,
             names: PatternNames::new(alloc)?,
             cells: 0,
             units: 0,
+        })
+    }
+
+    /// The same heap, whose copies share all that it has now.
+    pub fn into_shared(self, alloc: Global) -> Result<Heap, Memory>
+        ensures { IfOk result (λ heap. heap ≡ self) }
+    {
+        let Heap {
+            objects,
+            scopes,
+            literals,
+            names,
+            cells,
+            units,
+        } = self;
+        Ok(Heap {
+            objects: objects.share(alloc)?,
+            scopes: scopes.share(alloc)?,
+            literals: literals.share(alloc)?,
+            names,
+            cells,
+            units,
+        })
+    }
+
+    /// An equal heap. It shares what this one shares, until either writes it.
+    pub fn copy(&self, alloc: Global) -> Result<Heap, Memory>
+        ensures { IfOk result (λ heap. heap ≡ self.now) }
+    {
+        Ok(Heap {
+            objects: self.objects.copy(alloc)?,
+            scopes: self.scopes.copy(alloc)?,
+            literals: self.literals.copy(alloc)?,
+            names: self.names.copy(alloc)?,
+            cells: self.cells,
+            units: self.units,
         })
     }
 
@@ -254,7 +291,7 @@ impl Heap {
         }
         let at = self.objects.len();
         let made = Object::new(alloc, kind, older(prototype, at));
-        append_object(&mut self.objects, made)?;
+        self.objects.push(made)?;
         self.cells += 1;
         Ok(ObjectId(at as u32))
     }
@@ -279,7 +316,8 @@ impl Heap {
         let made = self
             .names
             .object(alloc, number, literal, older(prototype, at))?;
-        append_pattern(&mut self.objects, &mut self.literals, made, literal.copy()?)?;
+        let kept = KeptLiteral::new(literal.copy()?);
+        push_both(&mut self.objects, &mut self.literals, made, kept)?;
         self.cells += 1;
         Ok(ObjectId(at as u32))
     }
@@ -289,7 +327,7 @@ impl Heap {
         ensures { option_map (λ literal. literal.now) result ≡ literal_at self.now object }
     {
         match self.kind(object) {
-            Kind::Pattern(number) => self.literals.get(number as usize),
+            Kind::Pattern(number) => Some(self.literals.get(number as usize)?.literal()),
             _ => None,
         }
     }
@@ -310,7 +348,7 @@ impl Heap {
             return Err(HeapAnswer::HeapFull);
         }
         let at = self.scopes.len();
-        append_scope(&mut self.scopes, Scope::new(alloc, size, parent)?)?;
+        self.scopes.push(Scope::new(alloc, size, parent)?)?;
         self.cells += cost;
         Ok(ScopeId(at as u32))
     }
@@ -332,15 +370,15 @@ impl Heap {
         ensures unchanged { OnErr result (self.new ≡ self.old) }
     {
         let at = object.0 as usize;
-        if at >= self.objects.len() {
+        let Some(holder) = self.objects.get(at) else {
             return Ok(());
-        }
-        if self.objects[at].is_length(name) {
+        };
+        if holder.is_length(name) {
             return self.put_length(alloc, at, value);
         }
-        let old = self.objects[at].own_marks(name);
-        let cost = write_cost(self.cells, &self.objects[at], name, old)?;
-        let holder = &mut self.objects[at];
+        let old = holder.own_marks(name);
+        let cost = write_cost(self.cells, holder, name, old)?;
+        let holder = self.objects.get_mut(alloc, at)?;
         holder.put(alloc, name, old, value)?;
         self.cells += cost;
         Ok(())
@@ -359,15 +397,15 @@ impl Heap {
         ensures unchanged { OnErr result (self.new ≡ self.old) }
     {
         let at = object.0 as usize;
-        if at >= self.objects.len() {
+        let Some(holder) = self.objects.get(at) else {
             return Ok(());
-        }
-        let Some(cost) = self.objects[at].element_cost(index) else {
+        };
+        let Some(cost) = holder.element_cost(index) else {
             return self.put(alloc, object, &index_name(alloc, index)?, value);
         };
-        let length = self.objects[at].grown_length_at(index);
+        let length = holder.grown_length_at(index);
         let cost = limited_cost(self.cells, length, cost)?;
-        let holder = &mut self.objects[at];
+        let holder = self.objects.get_mut(alloc, at)?;
         holder.put_index(alloc, index, value)?;
         self.cells += cost;
         Ok(())
@@ -389,20 +427,20 @@ impl Heap {
         ensures unchanged { OnErr result (self.new ≡ self.old) }
     {
         let at = object.0 as usize;
-        if at >= self.objects.len() {
+        let Some(holder) = self.objects.get(at) else {
             return Ok(());
-        }
-        if self.objects[at].is_length(name) {
+        };
+        if holder.is_length(name) {
             return self.put_length(alloc, at, value);
         }
-        let old = self.objects[at].own_marks(name);
-        let cost = write_cost(self.cells, &self.objects[at], name, old)?;
+        let old = holder.own_marks(name);
+        let cost = write_cost(self.cells, holder, name, old)?;
         let property = Property {
             content: Content::Value(value),
             listed,
             deletable,
         };
-        let holder = &mut self.objects[at];
+        let holder = self.objects.get_mut(alloc, at)?;
         holder.define(alloc, name, property)?;
         self.cells += cost;
         Ok(())
@@ -422,20 +460,20 @@ impl Heap {
         ensures unchanged { OnErr result (self.new ≡ self.old) }
     {
         let at = object.0 as usize;
-        if at >= self.objects.len() {
+        let Some(holder) = self.objects.get(at) else {
             return Ok(());
-        }
-        let Some(cost) = self.objects[at].element_cost(index) else {
+        };
+        let Some(cost) = holder.element_cost(index) else {
             return self.define(alloc, object, &index_name(alloc, index)?, value, true, true);
         };
-        let length = self.objects[at].grown_length_at(index);
+        let length = holder.grown_length_at(index);
         let cost = limited_cost(self.cells, length, cost)?;
         let property = Property {
             content: Content::Value(value),
             listed: true,
             deletable: true,
         };
-        let holder = &mut self.objects[at];
+        let holder = self.objects.get_mut(alloc, at)?;
         holder.define_index(alloc, index, property)?;
         self.cells += cost;
         Ok(())
@@ -459,11 +497,14 @@ impl Heap {
             return Err(HeapAnswer::ArrayTooLong);
         }
         let size = size as u32;
-        let cost = u64::from(size.saturating_sub(self.objects[at].length()));
+        let Some(holder) = self.objects.get(at) else {
+            return Ok(());
+        };
+        let cost = u64::from(size.saturating_sub(holder.length()));
         if self.cells + cost > MOST_CELLS {
             return Err(HeapAnswer::HeapFull);
         }
-        let holder = &mut self.objects[at];
+        let holder = self.objects.get_mut(alloc, at)?;
         holder.set_length(alloc, size)?;
         self.cells += cost;
         Ok(())
@@ -471,16 +512,17 @@ impl Heap {
 
     /// Deletes the property of this name (ECMA-262 5.1, section 8.12.7). The answer is false exactly where it is there
     /// and can't be deleted; then it stays.
-    pub fn delete(&mut self, object: ObjectId, name: &Text) -> bool
-        ensures answer { result ≡ (deleted_of self.old object name.now).0 }
-        ensures after { self.new ≡ (deleted_of self.old object name.now).1 }
+    pub fn delete(&mut self, alloc: Global, object: ObjectId, name: &Text) -> Result<bool, Memory>
+        ensures answer { IfOk result (λ gone. gone ≡ (deleted_of self.old object name.now).0) }
+        ensures after { OnOk result (self.new ≡ (deleted_of self.old object name.now).1) }
+        ensures unchanged { OnErr result (self.new ≡ self.old) }
     {
         let at = object.0 as usize;
         if at >= self.objects.len() {
-            return true;
+            return Ok(true);
         }
-        let holder = &mut self.objects[at];
-        holder.delete(name)
+        let holder = self.objects.get_mut(alloc, at)?;
+        Ok(holder.delete(name))
     }
 
     /// The names that `for`-`in` lists (ECMA-262 5.1, section 12.6.4), in this profile's order: of the object the array
@@ -519,15 +561,23 @@ impl Heap {
     }
 
     /// Writes a slot; nothing changes where there is none.
-    pub fn write_slot(&mut self, scope: ScopeId, slot: u32, value: Value)
-        ensures { self.new ≡ slot_written_of self.old scope slot value }
+    pub fn write_slot(
+        &mut self,
+        alloc: Global,
+        scope: ScopeId,
+        slot: u32,
+        value: Value,
+    ) -> Result<(), Memory>
+        ensures after { OnOk result (self.new ≡ slot_written_of self.old scope slot value) }
+        ensures unchanged { OnErr result (self.new ≡ self.old) }
     {
         let at = scope.0 as usize;
         if at >= self.scopes.len() {
-            return;
+            return Ok(());
         }
-        let holder = &mut self.scopes[at];
+        let holder = self.scopes.get_mut(alloc, at)?;
         holder.write(slot, value);
+        Ok(())
     }
 
     /// Counts a text that is made. StringTooLong comes where it has more than 262,144 units, else TextSpent where the
@@ -594,31 +644,6 @@ fn older(prototype: Option<ObjectId>, at: usize) -> Option<ObjectId>
         None => None,
         Some(id) => { if (id.0 as usize) < at { Some(id) } else { None } }
     }
-}
-
-/// Adds the object of a pattern and its literal, or neither.
-fn append_pattern(
-    objects: &mut Vec<Object>,
-    literals: &mut Vec<PatternLiteral>,
-    made: Object,
-    literal: PatternLiteral,
-) -> Result<(), Memory>
-    ensures objects { OnOk result (objects.new.items ≡ objects.old.items ++ made ∷ []) }
-    ensures literals { OnOk result (literals.new.items ≡ literals.old.items ++ literal ∷ []) }
-    ensures unchanged { OnErr result ((objects.new.items ≡ objects.old.items) × (literals.new.items ≡ literals.old.items)) }
-{
-    literals.reserve(1)?;
-    objects.push(made)?;
-    literals.push(literal)?;
-    Ok(())
-}
-
-fn append_object(objects: &mut Vec<Object>, made: Object) -> Result<(), Memory>
-    ensures ok { OnOk result (objects.new.items ≡ objects.old.items ++ made ∷ []) }
-    ensures unchanged { OnErr result (objects.new.items ≡ objects.old.items) }
-{
-    objects.push(made)?;
-    Ok(())
 }
 
 fn append_scope(scopes: &mut Vec<Scope>, made: Scope) -> Result<(), Memory>

@@ -7,6 +7,7 @@
 
 mod fresh;
 mod heap;
+mod kept_literal;
 mod limits;
 mod pattern_names;
 mod table;

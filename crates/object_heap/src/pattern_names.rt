@@ -34,6 +34,17 @@ impl PatternNames {
         })
     }
 
+    pub(crate) fn copy(&self, alloc: Global) -> Result<PatternNames, Memory>
+        ensures { IfOk result (λ names. names ≡ self.now) }
+    {
+        Ok(PatternNames {
+            source: self.source.copy(alloc)?,
+            global: self.global.copy(alloc)?,
+            ignore_case: self.ignore_case.copy(alloc)?,
+            multiline: self.multiline.copy(alloc)?,
+        })
+    }
+
     /// The object of the pattern of this number, with what it says of its literal.
     pub(crate) fn object(
         &self,

@@ -136,7 +136,7 @@ fn slots(alloc: Global, size: u32, count: u32) -> Result<u64> {
     let mut sum: u64 = 0;
     for turn in 0..count {
         let slot = turn % size.max(1);
-        heap.write_slot(scope, slot, Value::Number(Whole::from(turn)));
+        heap.write_slot(alloc, scope, slot, Value::Number(Whole::from(turn)))?;
         sum = sum.wrapping_add(number_in(&heap.read_slot(alloc, scope, slot)?));
     }
     Ok(sum)
@@ -160,7 +160,7 @@ fn deletions(alloc: Global, count: u32) -> Result<u64> {
     let names = fill(alloc, &mut heap, object, count)?;
     let mut sum: u64 = 0;
     for name in names.as_slice() {
-        if heap.delete(object, name) {
+        if heap.delete(alloc, object, name)? {
             sum = sum.wrapping_add(1);
         }
     }

@@ -16,26 +16,35 @@ use utf16_text::Text;
 /// 192.168.1.10, the machine's own address in these rows.
 const SETTINGS: PacSettings = PacSettings { my_ip: 0xC0A8_010A };
 
+/// Sunday, 2 January 2000, at noon in GMT.
+const NOON: &str = "946814400";
+
 /// What a call gives, what it asked and what it told, over a host that knows some names, and on a Sunday at noon in GMT.
 pub(crate) fn called(alloc: Global, fields: &[&str]) -> Result<String> {
-    told_after(alloc, 0, fields)
+    let now = moments_in(alloc, "UTC", NOON)?;
+    told_after(alloc, 0, Some(now), fields)
+}
+
+/// The same where the call isn't told what clocks show.
+pub(crate) fn called_untold(alloc: Global, fields: &[&str]) -> Result<String> {
+    told_after(alloc, 0, None, fields)
 }
 
 /// The same where so many other names were asked before.
 pub(crate) fn called_late(alloc: Global, fields: &[&str]) -> Result<String> {
     let (asked, call) = fields.split_first().context("how many names")?;
-    told_after(alloc, asked.parse::<u32>()?, call)
+    let now = moments_in(alloc, "UTC", NOON)?;
+    told_after(alloc, asked.parse::<u32>()?, Some(now), call)
 }
 
-fn told_after(alloc: Global, asked: u32, call: &[&str]) -> Result<String> {
+fn told_after(alloc: Global, asked: u32, now: Option<Moments>, call: &[&str]) -> Result<String> {
     let (name, args) = call.split_first().context("a function")?;
     let function = function_named(name)?;
     let args = values(alloc, args)?;
-    let now = moments_in(alloc, "UTC", "946814400")?;
     let table = known(alloc)?;
     let mut host = TracingHost::new(alloc, &table);
-    ask_names(alloc, asked, &now, &mut host)?;
-    let answer = call_pac(alloc, function, &args, &now, &SETTINGS, &mut host);
+    ask_names(alloc, asked, now, &mut host)?;
+    let answer = call_pac(alloc, function, &args, now, &SETTINGS, &mut host);
     let mut told = written(alloc, &answer)?;
     for name in host.asked().as_slice().iter().skip(asked as usize) {
         told.push_str(", asked ")?;
@@ -46,7 +55,12 @@ fn told_after(alloc: Global, asked: u32, call: &[&str]) -> Result<String> {
 }
 
 /// Asks for so many names.
-fn ask_names(alloc: Global, count: u32, now: &Moments, host: &mut TracingHost<'_>) -> Result<()> {
+fn ask_names(
+    alloc: Global,
+    count: u32,
+    now: Option<Moments>,
+    host: &mut TracingHost<'_>,
+) -> Result<()> {
     for number in 0..count {
         let name = Text::from_str(alloc, &format!(in alloc; "n{number}.example")?)?;
         let args = [Value::Text(name)];
@@ -185,6 +199,7 @@ fn written(alloc: Global, answer: &PacAnswer) -> Result<String> {
             Ok(told)
         }
         PacAnswer::TooMany => Ok(String::from_str(alloc, "too many")?),
+        PacAnswer::NoClock => Ok(String::from_str(alloc, "no clock")?),
         PacAnswer::Memory => bail!("want of memory"),
     }
 }

@@ -34,6 +34,7 @@ fn answer(alloc: Global, part: &str, fields: &[&str]) -> Result<String> {
         "zones" => clocks::seconds(alloc, fields),
         "calls" => functions::called(alloc, fields),
         "calls after other names" => functions::called_late(alloc, fields),
+        "calls without a clock" => functions::called_untold(alloc, fields),
         "files of names" => names::told(alloc, fields),
         "long files of names" => names::told_behind(alloc, fields),
         "names told whole" => names::told_whole(alloc, fields),

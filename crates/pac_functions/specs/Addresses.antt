@@ -11,10 +11,12 @@ use Rattle.run_trees.specs.RunTree.{RunTree, Done, Ask}
 use Rattle.js_convert.specs.Texts.{text_of}
 use Rattle.pac_functions.specs.Texts.{or_undefined}
 
--- how a call ends: it gives a value, or it asks a name when the most are asked
+-- how a call ends: it gives a value, or it asks a name when the most are asked, or it goes by what clocks show, and that
+-- isn't told
 pub data PacEnd : Type 0 where
   Gives : Value → PacEnd
   AsksTooMany : PacEnd
+  NeedsClock : PacEnd
 
 -- ---- addresses
 

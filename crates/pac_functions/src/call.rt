@@ -5,7 +5,7 @@ ghost use Rattle.pac_functions.specs.Comes.{Comes, Answers};
 
 use crate::addresses::{address_of, is_in_net, quad_value};
 use crate::families::{addresses_of, is_in_net_ex};
-use crate::ranges::{is_date, is_time, is_weekday};
+use crate::ranges::{is_date, is_time, is_weekday, shown};
 use crate::texts::{
     dns_domain_is, dns_domain_levels, is_plain_host_name, local_host_or_domain_is, sh_exp_match_is,
     text_at,
@@ -53,6 +53,8 @@ pub enum PacAnswer {
     Missing(LookupName),
     /// 32 names were asked before, and this is another.
     TooMany,
+    /// The function goes by what clocks show, and that isn't told.
+    NoClock,
     Memory,
 }
 
@@ -61,6 +63,7 @@ pub enum PacAnswer {
 pub(crate) enum Stop {
     Missing(LookupName),
     TooMany,
+    NoClock,
     Memory,
 }
 
@@ -77,21 +80,23 @@ impl From<Memory> for Stop {
 
 /// Calls a function on its arguments, primitive values but for those of the ranges, which are handed over as they are.
 /// A missing argument is undefined, and a surplus one counts in the ranges alone. Missing comes exactly where the call
-/// asks a name that the host doesn't know, and TooMany exactly where 32 names are recorded and this is another.
+/// asks a name that the host doesn't know, TooMany exactly where 32 names are recorded and this is another, and NoClock
+/// exactly where `now` isn't told and the function is one of the ranges.
 pub fn call_pac<H: Host>(
     alloc: Global,
     which: PacFunction,
     args: &[Value],
-    now: &Moments,
+    now: Option<Moments>,
     settings: &PacSettings,
     host: &mut H,
 ) -> PacAnswer
-    ensures { Answers (walk (pac_call which args.now now.now settings.now.my_ip) (H.seen host.old)) result (H.seen host.new) }
+    ensures { Answers (walk (pac_call which args.now now settings.now.my_ip) (H.seen host.old)) result (H.seen host.new) }
 {
     match called(alloc, which, args, now, settings, host) {
         Ok(value) => PacAnswer::Value(value),
         Err(Stop::Missing(name)) => PacAnswer::Missing(name),
         Err(Stop::TooMany) => PacAnswer::TooMany,
+        Err(Stop::NoClock) => PacAnswer::NoClock,
         Err(Stop::Memory) => PacAnswer::Memory,
     }
 }
@@ -101,11 +106,11 @@ fn called<H: Host>(
     alloc: Global,
     which: PacFunction,
     args: &[Value],
-    now: &Moments,
+    now: Option<Moments>,
     settings: &PacSettings,
     host: &mut H,
 ) -> Result<Value, Stop>
-    ensures { Comes (walk (pac_call which args.now now.now settings.now.my_ip) (H.seen host.old)) result (H.seen host.new) }
+    ensures { Comes (walk (pac_call which args.now now settings.now.my_ip) (H.seen host.old)) result (H.seen host.new) }
 {
     match which {
         PacFunction::IsPlainHostName => Ok(Value::Bool(is_plain_host_name(alloc, args)?)),
@@ -128,9 +133,9 @@ fn called<H: Host>(
             host.alert(alloc, &text)?;
             Ok(Value::Undefined)
         }
-        PacFunction::WeekdayRange => Ok(Value::Bool(is_weekday(alloc, now, args)?)),
-        PacFunction::DateRange => Ok(Value::Bool(is_date(alloc, now, args)?)),
-        PacFunction::TimeRange => Ok(Value::Bool(is_time(alloc, now, args)?)),
+        PacFunction::WeekdayRange => Ok(Value::Bool(is_weekday(alloc, &shown(now)?, args)?)),
+        PacFunction::DateRange => Ok(Value::Bool(is_date(alloc, &shown(now)?, args)?)),
+        PacFunction::TimeRange => Ok(Value::Bool(is_time(alloc, &shown(now)?, args)?)),
         PacFunction::DnsResolveEx => Ok(Value::Text(addresses_of(alloc, args, host)?)),
         PacFunction::IsResolvableEx => {
             let addresses = addresses_of(alloc, args, host)?;

@@ -124,7 +124,7 @@ module _ {R Out : Type 0} (told : Option Name) where
   count-append [] ys = omega arith
   count-append (x ∷ xs) ys = let ih = count-append xs ys in omega arith
 
-  count_more : (sessions : List (Session R Out)) (k : ℕ) (d : Session R Out) → k < length sessions → count_woken told (take (k + 1) sessions) ≡ count_woken told (take k sessions) + one_if (is_woken told (get_or sessions k d).progress)
+  pub count_more : (sessions : List (Session R Out)) (k : ℕ) (d : Session R Out) → k < length sessions → count_woken told (take (k + 1) sessions) ≡ count_woken told (take k sessions) + one_if (is_woken told (get_or sessions k d).progress)
   count_more sessions k d low = ap (count_woken told) (take_more sessions k d low) ∙ count-append (take k sessions) (get_or sessions k d ∷ []) ∙ (omega arith)
 
   pub count_part : (sessions : List (Session R Out)) (k : ℕ) → count_woken told (take k sessions) ≤ count_woken told sessions

@@ -9,3 +9,5 @@ pub mod Sent
 pub mod Turning
 pub mod Begins
 pub mod Start
+pub mod Waits
+pub mod Cascading

@@ -124,11 +124,11 @@ module _ {R Out End : Type 0} (gives : Out → End → List (List ℕ) → Type 
         }
 
   -- the core has begun
-  pub began : (t : Terms) (ranges : AreTerms t) (all : List R) (new : Lookups) (core : Core R Out) (dice dice' : Option DiceTold) (asked : List Question) → new ≡ new_lookups t → core.broken ≡ false → Begins gives tree all new core.lookups dice dice' core.sessions.items asked → ((run : R) → AsksLookupNames (job_of (tree run))) → (runs runs' : ℕ) → runs' ≡ runs + length all → (old : Outside) → old.dice ≡ dice → old.runs ≡ runs → Began (StandsFor gives tree core (task_of t (run_jobs tree all))) (task_of t (run_jobs tree all)) (first_sent asked) old dice' runs'
+  pub began : (t : Terms) (ranges : AreTerms t) (all : List R) (new : Lookups) (core : Core R Out) (dice dice' : Option DiceTold) (asked : List Question) → new ≡ new_lookups t → core.sessions.broken ≡ false → Begins gives tree all new core.lookups dice dice' core.sessions.roster.all.items asked → ((run : R) → AsksLookupNames (job_of (tree run))) → (runs runs' : ℕ) → runs' ≡ runs + length all → (old : Outside) → old.dice ≡ dice → old.runs ≡ runs → Began (StandsFor gives tree core (task_of t (run_jobs tree all))) (task_of t (run_jobs tree all)) (first_sent asked) old dice' runs'
   began t ranges all new core dice dice' asked is_new whole begins named runs runs' ran old d r =
       let jobs : List Job = run_jobs tree all in
       let sent : List Outgoing = first_sent asked in
-      let sessions : List (Session R Out) = core.sessions.items in
+      let sessions : List (Session R Out) = core.sessions.roster.all.items in
       let b : Begins gives tree all (new_lookups t) core.lookups dice dice' sessions asked = subst (λ l. Begins gives tree all l core.lookups dice dice' sessions asked) is_new begins in
       let count : all_runs t jobs (Begin sent) ≡ length jobs = runs_begin t jobs sent in
       let many : length jobs ≡ length all = length-map all (λ run. job_of (tree run)) in

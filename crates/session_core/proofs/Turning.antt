@@ -1,11 +1,14 @@
 -- One event more, and the sessions stand for the longer log.
 use Rattle.std.proofs.Common.{◌≡◌, ℕ, suc, ◌+◌, ◌<◌, ◌≤◌, Bool, true, false, ◌||◌, not, List, [], ◌∷◌, ◌++◌, get_or, length, map, Option, Some, None, refl, sym, ◌∙◌, ap, subst, arith}
+use Rattle.std.specs.Prelude.{⊤}
 use Rattle.std.specs.FinMap as finite
 use Rattle.std.specs.List.{All, filter, filter_map, list_any}
 use Rattle.std.proofs.lemmas.List.{append-nil, get_or-map, length-map, take_all}
 use Rattle.std.proofs.lemmas.List.Elements.{All-append, All-filter, All-map, All-same, All-weaker}
+use Rattle.std.proofs.lemmas.List.Folds.{list_any-append}
 use mathlib.Core.Path.{fun_ext}
 use Rattle.pac_names.specs.Names.{Name}
+use Rattle.pac_names.specs.Comparing.{one_name, same_name}
 use Rattle.run_trees.specs.RunTree.{RunTree}
 use Rattle.pac_ports.specs.Dice.{DiceTold}
 use Rattle.poll_log.specs.declared.question.Question.{Question}
@@ -21,7 +24,7 @@ use Rattle.poll_log.specs.Jobs.{IsOwed, Job, SendsOwed, once, runs_of, some_wait
 use Rattle.poll_log.proofs.Bounds.{want_sent}
 use Rattle.poll_log.proofs.Counts.{seen_filter}
 use Rattle.poll_log.proofs.Dues.{falling, firsts_proper, owed_then}
-use Rattle.poll_log.proofs.Names.{AllNew, AllSeen, has, has-append, has-names, new_from-once, or-first}
+use Rattle.poll_log.proofs.Names.{AllNew, AllSeen, has, has-append, has-names, new_from-once, or-first, true_false}
 use Rattle.poll_log.proofs.Outgoing.{questions_of}
 use Rattle.poll_log.proofs.TurnLaws.{accepted_unsent, falls_at, falls_due, told_by_event, told_next, told_unsent}
 use Rattle.poll_log.specs.Told as log
@@ -47,6 +50,7 @@ use Rattle.session_core.specs.declared.session.Session.{Session}
 use Rattle.session_core.specs.Lookups.{found_at, hearing, told_name, with_asked}
 use Rattle.session_core.specs.Sessions.{IsPlaced, buried, count_woken, dead_of, died_with, if_dead, is_waiting, is_woken, unanswered_by}
 use Rattle.session_core.specs.Settling.{numbers_of}
+use Rattle.session_core.specs.Waiting.{ended, ended_all, ended_by, ended_if}
 use Rattle.session_core.specs.Beginning.{run_jobs}
 use Rattle.session_core.specs.Cascade.{Cascades, IsNext, KnowsThese, missed_names}
 use Rattle.session_core.specs.Stands.{Stands, StandsFor, jobs_of, task_of}
@@ -70,6 +74,14 @@ runs_same (x ∷ xs) (y ∷ ys) long same =
 pub buried_keeps : {R Out : Type 0} (stub : StubState) (xs : List (Session R Out)) → map (λ s. s.run) (map (buried stub) xs) ≡ map (λ s. s.run) xs
 buried_keeps stub [] = refl
 buried_keeps stub (x ∷ xs) = ap (λ l. x.run ∷ l) (buried_keeps stub xs)
+
+pub ended_keeps : {R Out : Type 0} (names : List Name) (xs : List (Session R Out)) → map (λ s. s.run) (ended_all names xs) ≡ map (λ s. s.run) xs
+ended_keeps [] xs = refl
+ended_keeps {R = R} {Out = Out} (n ∷ names) xs = ended_keeps names (map (ended_by n) xs) ∙ one xs
+  where
+    one : (ys : List (Session R Out)) → map (λ s. s.run) (map (ended_by n) ys) ≡ map (λ s. s.run) ys
+    one [] = refl
+    one (y ∷ ys) = ap (λ l. y.run ∷ l) (one ys)
 
 pub cascades_keep : {R Out End : Type 0} (gives : Out → End → List (List ℕ) → Type 0) (tree : R → RunTree End) (told : Option Name) (sessions sessions' : List (Session R Out)) (lookups lookups' : Lookups) (dice dice' : Option DiceTold) (asked : List Question) → Cascades gives tree told sessions sessions' lookups lookups' dice dice' asked → map (λ s. s.run) sessions' ≡ map (λ s. s.run) sessions
 cascades_keep gives tree told sessions sessions' lookups lookups' dice dice' asked c =
@@ -104,6 +116,89 @@ module _ {R Out End : Type 0} (gives : Out → End → List (List ℕ) → Type 
       go (Waiting n) p = dies n (dead_of (beaten stub) n) refl p.0
       go (Finished out) p = p
       go (Unanswered n) p = (p.0, still_dead stub n p.1)
+
+-- what waits waits for a name that is not dead
+abbrev pub IsAlive : {Out : Type 0} → StubState → Progress Out → Type 0
+IsAlive stub (Waiting n) = dead_of stub n ≡ false
+IsAlive stub (Finished out) = ⊤
+IsAlive stub (Unanswered n) = ⊤
+
+placed_alive : {Out End : Type 0} (gives : Out → End → List (List ℕ) → Type 0) (run : RunTree End) (M : Map) (stub : StubState) (p : Progress Out) → IsPlaced gives run M (dead_of stub) p → IsAlive stub p
+placed_alive gives run M stub (Waiting n) placed = placed.1
+placed_alive gives run M stub (Finished out) placed = tt
+placed_alive gives run M stub (Unanswered n) placed = tt
+
+-- ended, name by name
+abbrev ended_each : {R Out : Type 0} → List Name → Session R Out → Session R Out
+ended_each [] s = s
+ended_each (n ∷ names) s = ended_each names (ended_by n s)
+
+same_sym : (a b : Name) → same_name a b ≡ same_name b a
+same_sym a b = go (same_name a b) refl (same_name b a) refl
+  where
+    go : (x : Bool) → same_name a b ≡ x → (y : Bool) → same_name b a ≡ y → x ≡ y
+    go true e true f = refl
+    go false e false f = refl
+    go true e false f = true_false (sym ((one_name b a).1 (sym ((one_name a b).0 e))) ∙ f)
+    go false e true f = true_false (sym ((one_name a b).1 (sym ((one_name b a).0 f))) ∙ e)
+
+module _ {R Out : Type 0} (stub : StubState) where
+  all_each : (names : List Name) (xs : List (Session R Out)) → ended_all names xs ≡ map (ended_each names) xs
+  all_each [] xs = same xs
+    where
+      same : (ys : List (Session R Out)) → ys ≡ map (λ s. s) ys
+      same [] = refl
+      same (y ∷ ys) = ap (λ l. y ∷ l) (same ys)
+  all_each (n ∷ names) xs = all_each names (map (ended_by n) xs) ∙ both xs
+    where
+      both : (ys : List (Session R Out)) → map (ended_each names) (map (ended_by n) ys) ≡ map (ended_each (n ∷ names)) ys
+      both [] = refl
+      both (y ∷ ys) = ap (λ l. ended_each names (ended_by n y) ∷ l) (both ys)
+
+  -- who is unanswered stays so, and so does who is finished
+  each_unanswered : (names : List Name) (s : Session R Out) (m : Name) → s.progress ≡ Unanswered m → ended_each names s ≡ s
+  each_unanswered [] s m e = refl
+  each_unanswered (n ∷ names) s m e =
+      let same : ended_by n s ≡ s = ap (λ p. record s { progress = ended n p }) e ∙ ap (λ p. record s { progress = p }) (sym e) in
+      ap (ended_each names) same ∙ each_unanswered names s m e
+
+  each_finished : (names : List Name) (s : Session R Out) (out : Out) → s.progress ≡ Finished out → ended_each names s ≡ s
+  each_finished [] s out e = refl
+  each_finished (n ∷ names) s out e =
+      let same : ended_by n s ≡ s = ap (λ p. record s { progress = ended n p }) e ∙ ap (λ p. record s { progress = p }) (sym e) in
+      ap (ended_each names) same ∙ each_finished names s out e
+
+  each_waiting : (names : List Name) (s : Session R Out) (m : Name) → s.progress ≡ Waiting m → ended_each names s ≡ record s { progress = unanswered_by (if_dead m (list_any (λ n. same_name n m) names)) (Waiting m) }
+  each_waiting [] s m e = ap (λ p. record s { progress = p }) e
+  each_waiting (n ∷ names) s m e = ap (λ p. ended_each names (record s { progress = ended n p })) e ∙ go (same_name m n) refl (λ x e. each_waiting names x m e)
+    where
+      go : (b : Bool) → same_name m n ≡ b → ((x : Session R Out) → x.progress ≡ Waiting m → ended_each names x ≡ record x { progress = unanswered_by (if_dead m (list_any (λ y. same_name y m) names)) (Waiting m) }) → ended_each names (record s { progress = ended_if b m }) ≡ record s { progress = unanswered_by (if_dead m (same_name n m || list_any (λ x. same_name x m) names)) (Waiting m) }
+      go true f ih =
+          each_unanswered names (record s { progress = Unanswered m }) m refl
+          ∙ ap (λ b. record s { progress = unanswered_by (if_dead m (b || list_any (λ x. same_name x m) names)) (Waiting m) }) (sym (same_sym n m ∙ f))
+      go false f ih =
+          ih (record s { progress = Waiting m }) refl
+          ∙ ap (λ b. record s { progress = unanswered_by (if_dead m (b || list_any (λ x. same_name x m) names)) (Waiting m) }) (sym (same_sym n m ∙ f))
+
+  each_buried : (s : Session R Out) → IsAlive stub s.progress → ended_each (dying stub) s ≡ buried (beaten stub) s
+  each_buried s a = go s.progress refl a
+    where
+      go : (p : Progress Out) → s.progress ≡ p → IsAlive stub p → ended_each (dying stub) s ≡ record s { progress = unanswered_by (died_with (beaten stub) p) p }
+      go (Waiting m) e k =
+          let all : dead_of (beaten stub) m ≡ list_any (λ n. same_name n m) (dying stub) =
+          list_any-append (λ n. same_name n m) stub.dead (dying stub) ∙ ap (λ b. b || list_any (λ n. same_name n m) (dying stub)) k
+          in
+          each_waiting (dying stub) s m e ∙ ap (λ b. record s { progress = unanswered_by (if_dead m b) (Waiting m) }) (sym all)
+      go (Finished out) e k = each_finished (dying stub) s out e ∙ ap (λ p. record s { progress = p }) e
+      go (Unanswered m) e k = each_unanswered (dying stub) s m e ∙ ap (λ p. record s { progress = p }) e
+
+  -- where who waits is alive, ending those who wait for a dying name is burying
+  ended_buried : (xs : List (Session R Out)) → All (λ x. IsAlive stub x.progress) xs → ended_all (dying stub) xs ≡ map (buried (beaten stub)) xs
+  ended_buried xs a = all_each (dying stub) xs ∙ every xs a
+    where
+      every : (ys : List (Session R Out)) → All (λ y. IsAlive stub y.progress) ys → map (ended_each (dying stub)) ys ≡ map (buried (beaten stub)) ys
+      every [] b = refl
+      every (y ∷ ys) b = ap (λ z. z ∷ map (ended_each (dying stub)) ys) (each_buried y (b 0 y (omega arith))) ∙ ap (λ l. buried (beaten stub) y ∷ l) (every ys (λ k d low. b (suc k) d (omega arith)))
 
 -- the sessions after an event that is a beat, or none
 abbrev pub closed : {R Out : Type 0} → Bool → StubState → List (Session R Out) → List (Session R Out)
@@ -344,11 +439,17 @@ module _ {R Out End : Type 0} (gives : Out → End → List (List ℕ) → Type 
         subst (λ l. Stepped (Stands gives tree sessions' (then_with l l.stub) task) task h e (map outgoing_of first) dice dice' runs runs') (sym cascades.lookups_are)
         (subst (λ l. Stepped (Stands gives tree sessions' (then_with (with_asked asked (hearing e lookups)) stub_then) task) task h e (map outgoing_of l) dice dice' runs runs') (append-nil (map first_sending asked) ∙ sym first_is) (by_beat false b))
 
+    -- who waits waits for a name that is alive
+    alive : All (λ (x : Session R Out). IsAlive mid.stub x.progress) sessions'
+    alive k d low =
+        subst (λ (l : Lookups). IsAlive l.stub (get_or sessions' k d).progress) (sym cascades.lookups_are)
+        (placed_alive gives (tree (get_or sessions' k d).run) (after gives tree sessions lookups task h s e) stub_then (get_or sessions' k d).progress (placed_next gives tree sessions lookups task h s e sessions' mid dice dice' asked cascades k d low))
+
     -- a beat
-    pub stepped_beat : beat ≡ true → (repeats sent : List Sending) (last : List (Session R Out)) (stub' : StubState) → repeats ≡ resent mid.stub → stub' ≡ beaten mid.stub → last ≡ map (buried (beaten mid.stub)) sessions' → sent ≡ first ++ repeats → Stepped (Stands gives tree last (then_with mid stub') task) task h e (map outgoing_of sent) dice dice' runs runs'
+    pub stepped_beat : beat ≡ true → (repeats sent : List Sending) (last : List (Session R Out)) (stub' : StubState) → repeats ≡ resent mid.stub → stub' ≡ beaten mid.stub → last ≡ ended_all (dying mid.stub) sessions' → sent ≡ first ++ repeats → Stepped (Stands gives tree last (then_with mid stub') task) task h e (map outgoing_of sent) dice dice' runs runs'
     stepped_beat b repeats sent last stub' a k l w =
         subst (λ x. Stepped (Stands gives tree last (then_with mid x) task) task h e (map outgoing_of sent) dice dice' runs runs') (sym k)
-        (subst (λ x. Stepped (Stands gives tree x (then_with mid (beaten mid.stub)) task) task h e (map outgoing_of sent) dice dice' runs runs') (sym l)
+        (subst (λ x. Stepped (Stands gives tree x (then_with mid (beaten mid.stub)) task) task h e (map outgoing_of sent) dice dice' runs runs') (sym (l ∙ ended_buried mid.stub sessions' alive))
         (subst (λ x. Stepped (Stands gives tree (map (buried (beaten mid.stub)) sessions') (then_with mid (beaten mid.stub)) task) task h e (map outgoing_of x) dice dice' runs runs') (ap (λ x. x ++ resent mid.stub) (sym first_is) ∙ ap (λ x. first ++ x) (sym a) ∙ sym w)
         (subst (λ m. Stepped (Stands gives tree (map (buried (beaten m.stub)) sessions') (then_with m (beaten m.stub)) task) task h e (map outgoing_of (map first_sending asked ++ resent m.stub)) dice dice' runs runs') (sym cascades.lookups_are) (by_beat true b))))
 
@@ -399,6 +500,6 @@ module _ {R Out End : Type 0} (gives : Out → End → List (List ℕ) → Type 
       ∙ sym (ap (λ (x : Task). some_wait x.terms x.jobs h) s.same)
 
 -- memory didn't run out
-pub stepped_whole : {R Out End : Type 0} (gives : Out → End → List (List ℕ) → Type 0) (tree : R → RunTree End) (core : Core R Out) (sessions : List (Session R Out)) (task : Task) (h : Turns) (e : Event) (out : List Outgoing) (dice dice' : Option DiceTold) (runs runs' : ℕ) → core.broken ≡ false → core.sessions.items ≡ sessions → Stepped (Stands gives tree sessions core.lookups task) task h e out dice dice' runs runs' → Stepped (StandsFor gives tree core task) task h e out dice dice' runs runs'
+pub stepped_whole : {R Out End : Type 0} (gives : Out → End → List (List ℕ) → Type 0) (tree : R → RunTree End) (core : Core R Out) (sessions : List (Session R Out)) (task : Task) (h : Turns) (e : Event) (out : List Outgoing) (dice dice' : Option DiceTold) (runs runs' : ℕ) → core.sessions.broken ≡ false → core.sessions.roster.all.items ≡ sessions → Stepped (Stands gives tree sessions core.lookups task) task h e out dice dice' runs runs' → Stepped (StandsFor gives tree core task) task h e out dice dice' runs runs'
 stepped_whole gives tree core sessions task h e out dice dice' runs runs' whole is p =
     record { stands = record { whole = whole; stands = subst (λ l. Stands gives tree l core.lookups task (Then h e out)) (sym is) p.stands }; owed = p.owed; drew = p.drew; ran = p.ran }

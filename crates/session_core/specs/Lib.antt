@@ -3,6 +3,7 @@ pub mod Lookups
 pub mod Sessions
 pub mod Settling
 pub mod Cascade
+pub mod Waiting
 pub mod Stands
 pub mod Beginning
 pub mod Ends

@@ -46,17 +46,17 @@ pub record Stands {R Out End : Type 0} (gives : Out → End → List (List ℕ) 
 -- ---- a core
 
 abbrev pub sessions_of : {R Out : Type 0} → Core R Out → List (Session R Out)
-sessions_of core = core.sessions.items
+sessions_of core = core.sessions.roster.all.items
 
 -- what its sessions run, in their order
 abbrev pub its_runs : {R Out : Type 0} → Core R Out → List R
-its_runs core = map (λ s. s.run) core.sessions.items
+its_runs core = map (λ s. s.run) core.sessions.roster.all.items
 
 -- memory ran out in the midst of an event
 abbrev pub is_broken : {R Out : Type 0} → Core R Out → Bool
-is_broken core = core.broken
+is_broken core = core.sessions.broken
 
 -- A core stands for a log while memory never ran out.
 pub record StandsFor {R Out End : Type 0} (gives : Out → End → List (List ℕ) → Type 0) (tree : R → RunTree End) (core : Core R Out) (task : Task) (turns : Turns) : Type 0 where
   pub whole : is_broken core ≡ false
-  pub stands : Stands gives tree core.sessions.items core.lookups task turns
+  pub stands : Stands gives tree core.sessions.roster.all.items core.lookups task turns

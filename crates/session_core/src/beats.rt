@@ -1,8 +1,11 @@
 // What a beat does.
-ghost use Rattle.std.specs.Prelude.{◌≡◌, IfOk, OnOk, map};
-ghost use Rattle.stub_poller.specs.State.{beaten, resent};
-ghost use Rattle.session_core.specs.Sessions.{buried, died_with};
+ghost use Rattle.std.specs.Prelude.{◌≡◌, ℕ, ◌<◌, IfOk, OnOk, get_or, length, map, true};
+ghost use Rattle.std.specs.List.{All};
+ghost use Rattle.stub_poller.specs.State.{beaten, dying, resent};
+ghost use Rattle.session_core.specs.declared.session.Session.{Session as Kept};
+ghost use Rattle.session_core.specs.Waiting.{IsKept, ended_all, ended_by, ended_where, has};
 
+use crate::roster::Roster;
 use crate::{Progress, Session};
 use pac_names::LookupName;
 use poll_log::Sending;
@@ -10,52 +13,70 @@ use std::alloc::Global;
 use stub_poller::Stub;
 use utf16_text::Memory;
 
-/// A beat: what is to be sent again, in the order of asking. The sessions that wait for a name which then is dead are
-/// unanswered.
+/// A beat: what is to be sent again, in the order of asking. The sessions that wait for a name which the beat ends are
+/// unanswered; it looks at no other.
 pub(crate) fn take_beat<R, O: Drop>(
     alloc: Global,
-    sessions: &mut [Session<R, O>],
+    roster: &mut Roster<R, O>,
     stub: &mut Stub,
 ) -> Result<Vec<Sending>, Memory>
+    requires { IsKept roster.old }
     ensures again { IfOk result (λ again. again.items ≡ resent stub.old) }
     ensures stub { OnOk result (stub.new ≡ beaten stub.old) }
-    ensures sessions { OnOk result (sessions.new ≡ map (buried (beaten stub.old)) sessions.old) }
+    ensures sessions { OnOk result (roster.new.all.items ≡ ended_all (dying stub.old) roster.old.all.items) }
+    ensures kept { OnOk result (IsKept roster.new) }
 {
-    let again = stub.on_beat().resends(alloc)?;
-    bury(sessions, stub);
+    let report = stub.on_beat();
+    let again = report.resends(alloc)?;
+    bury(alloc, roster, &report.dead)?;
     Ok(again)
 }
 
-// Ends the sessions that wait for a dead name.
-fn bury<R, O: Drop>(sessions: &mut [Session<R, O>], stub: &Stub)
-    ensures { sessions.new ≡ map (buried stub.now) sessions.old }
+// Ends the sessions that wait for any of these names.
+fn bury<R, O: Drop>(
+    alloc: Global,
+    roster: &mut Roster<R, O>,
+    dead: &[LookupName],
+) -> Result<(), Memory>
+    requires { IsKept roster.old }
+    ensures sessions { OnOk result (roster.new.all.items ≡ ended_all dead.now roster.old.all.items) }
+    ensures kept { OnOk result (IsKept roster.new) }
 {
-    for session in sessions.iter_mut() {
-        bury_one(session, stub);
+    for name in dead {
+        end_waiters(alloc, roster, name)?;
+    }
+    Ok(())
+}
+
+// Ends the sessions that wait for the name.
+fn end_waiters<R, O: Drop>(
+    alloc: Global,
+    roster: &mut Roster<R, O>,
+    name: &LookupName,
+) -> Result<(), Memory>
+    requires { IsKept roster.old }
+    ensures sessions { OnOk result (roster.new.all.items ≡ map (ended_by name.now) roster.old.all.items) }
+    ensures kept { OnOk result (IsKept roster.new) }
+{
+    let places = roster.waiting.take(alloc, name)?;
+    end_all(&mut roster.all, &places, name);
+    Ok(())
+}
+
+// Ends the sessions at these places.
+fn end_all<R, O: Drop>(sessions: &mut [Session<R, O>], places: &[usize], name: &LookupName)
+    requires { All (λ place. place < length sessions.old) places.now }
+    ensures long { length sessions.new ≡ length sessions.old }
+    ensures ended { (at : ℕ) (d : Kept R O) → at < length sessions.old → get_or sessions.new at d
+        ≡ ended_where (has places.now at) name.now (get_or sessions.old at d) }
+{
+    for place in places {
+        end_one(&mut sessions[*place], name);
     }
 }
 
-fn bury_one<R, O: Drop>(session: &mut Session<R, O>, stub: &Stub)
-    ensures { session.new ≡ buried stub.now session.old }
+fn end_one<R, O: Drop>(session: &mut Session<R, O>, name: &LookupName)
+    ensures { session.new ≡ ended_where true name.now session.old }
 {
-    if let Some(name) = died(&session.progress, stub) {
-        session.progress = Progress::Unanswered(name);
-    }
-}
-
-// The dead name that it waits for, if it waits for one.
-fn died<O>(progress: &Progress<O>, stub: &Stub) -> Option<LookupName>
-    ensures { result ≡ died_with stub.now progress.now }
-{
-    match progress {
-        Progress::Waiting(name) => {
-            if stub.is_dead(name) {
-                Some(name.copy())
-            } else {
-                None
-            }
-        }
-        Progress::Finished(_) => None,
-        Progress::Unanswered(_) => None,
-    }
+    session.progress = Progress::Unanswered(name.copy());
 }

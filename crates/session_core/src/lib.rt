@@ -11,12 +11,15 @@ mod beats;
 mod beginning;
 mod cascade;
 mod events;
+mod keeping;
 mod lookups;
 mod poller;
 mod resolving;
+mod roster;
 mod run;
 mod session;
 mod settling;
+mod waiting;
 
 pub use poller::Core;
 pub use resolving::run_all;

@@ -10,9 +10,10 @@ ghost use Rattle.session_core.specs.Stands.{StandsFor, is_broken, its_runs};
 use crate::asking::first_sendings;
 use crate::beginning::{Begun, begin};
 use crate::events::take_event;
+use crate::keeping::Keeping;
 use crate::lookups::Lookups;
-use crate::session::{outcome_of, some_wait, without_outcome};
-use crate::{Run, Session, SessionState};
+use crate::session::{outcome_of, without_outcome};
+use crate::{Run, SessionState};
 use pac_ports::Dice;
 use poll_log::{Question, Sending, Terms};
 use poll_loop::{Event, Poller};
@@ -24,10 +25,8 @@ use utf16_text::Memory;
 /// Many runs, and what is known of the names that they ask.
 #[derive(Drop)]
 pub struct Core<R: Run> {
-    pub(crate) sessions: Vec<Session<R, R::Outcome>>,
+    pub(crate) sessions: Keeping<R, R::Outcome>,
     lookups: Lookups,
-    // memory ran out in the midst of an event
-    broken: bool,
 }
 
 impl<R: Run> Core<R> {
@@ -61,13 +60,13 @@ impl<R: Run> Core<R> {
     {
         let mut lookups = Lookups::new(alloc, terms);
         let begun = begin(alloc, all, &mut lookups, dice, runs)?;
-        let Begun { sessions, asked } = begun;
+        let Begun { roster, asked } = begun;
         let sent = first_sendings(alloc, asked)?;
-        let core = Core {
-            sessions,
-            lookups,
+        let sessions = Keeping {
+            roster,
             broken: false,
         };
+        let core = Core { sessions, lookups };
         Ok((core, sent))
     }
 
@@ -77,7 +76,7 @@ impl<R: Run> Core<R> {
         ensures { (task : Task) (turns : Turns) (job : Job) → StandsFor R.gives R.tree self.now task turns →
             IsState task.terms turns (get_or task.jobs k job) result }
     {
-        without_outcome(&self.sessions[k].progress)
+        without_outcome(&self.sessions.roster.all[k].progress)
     }
 
     /// The outcome of a session: that of the uninterrupted run against every map that holds what is told. There is none
@@ -91,7 +90,7 @@ impl<R: Run> Core<R> {
             IsFinished task.terms turns (get_or task.jobs k job)
             × IsOutcome R.gives (R.tree (get_or (its_runs self.now) k run)) (told task.terms turns) outcome.now) }
     {
-        outcome_of(&self.sessions[k].progress)
+        outcome_of(&self.sessions.roster.all[k].progress)
     }
 
     /// How often a session was run.
@@ -100,7 +99,7 @@ impl<R: Run> Core<R> {
         ensures { (task : Task) (turns : Turns) (job : Job) → StandsFor R.gives R.tree self.now task turns →
             result ≡ runs_of task.terms turns (get_or task.jobs k job) }
     {
-        self.sessions[k].runs
+        self.sessions.roster.all[k].runs
     }
 }
 
@@ -114,7 +113,7 @@ impl<R: Run> Poller for Core<R> {
     ghost kept = { its_runs };
 
     fn ended(&self) -> bool {
-        !some_wait(&self.sessions)
+        self.sessions.roster.waiting.is_empty()
     }
 
     fn truncated(&self, datagram: &[u8]) -> Option<Question> {
@@ -142,19 +141,19 @@ impl<R: Run> Poller for Core<R> {
         ensures undrawn { is_broken self.old ≡ true → dice.new ≡ dice.old }
         ensures unrun { is_broken self.old ≡ true → runs.new ≡ runs.old }
     {
-        if self.broken {
+        if self.sessions.broken {
             return Err(Memory);
         }
-        self.broken = true;
+        self.sessions.broken = true;
         let sent = take_event(
             alloc,
             event,
-            &mut self.sessions,
+            &mut self.sessions.roster,
             &mut self.lookups,
             dice,
             runs,
         )?;
-        self.broken = false;
+        self.sessions.broken = false;
         Ok(sent)
     }
 }

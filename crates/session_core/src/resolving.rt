@@ -47,7 +47,7 @@ pub fn run_all<R: Run, N: Link, D: Dice, L: Ledger>(
     };
     let (mut core, first) = begun;
     match poll(alloc, &mut core, &first, upstream, link, dice, runs) {
-        Ok(()) => Ok(core.sessions),
+        Ok(()) => Ok(core.sessions.roster.all),
         Err(PollError::Link) => Err(PollError::Link),
         Err(PollError::Memory) => Err(PollError::Memory),
     }

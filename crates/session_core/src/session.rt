@@ -1,9 +1,7 @@
 // A session: a run, and what has become of it.
 ghost use Rattle.std.specs.Prelude.{◌≡◌, IfSome, None, false};
-ghost use Rattle.std.specs.List.{list_any};
 ghost use Rattle.session_core.specs.Ends.{is_finished, without_outcome};
 ghost use Rattle.session_core.specs.declared.session.Progress.TheVariants.{Finished};
-ghost use Rattle.session_core.specs.Sessions.{is_waiting, waits_for};
 
 use pac_names::LookupName;
 
@@ -32,31 +30,6 @@ pub struct Session<R, O> {
     pub run: R,
     pub progress: Progress<O>,
     pub runs: u64,
-}
-
-/// Whether it waits for this name.
-pub(crate) fn waits_for<O>(progress: &Progress<O>, name: &LookupName) -> bool
-    ensures { result ≡ waits_for name.now progress.now }
-{
-    match progress {
-        Progress::Waiting(other) => *other == *name,
-        Progress::Finished(_) => false,
-        Progress::Unanswered(_) => false,
-    }
-}
-
-/// Whether it waits for a name.
-pub(crate) fn is_waiting<O>(progress: &Progress<O>) -> bool
-    ensures { result ≡ is_waiting progress.now }
-{
-    matches!(progress, Progress::Waiting(_))
-}
-
-/// Whether some of them wait for a name.
-pub(crate) fn some_wait<R, O>(sessions: &[Session<R, O>]) -> bool
-    ensures { result ≡ list_any (λ s. is_waiting s.progress) sessions.now }
-{
-    sessions.iter().any(|session| is_waiting(&session.progress))
 }
 
 /// The same without the outcome.

@@ -346,3 +346,37 @@ fn replies_of_either_kind(rt: HostRuntime) -> Result<(), Fail> {
     assert!(rt; stub.on_beat().resend.is_empty());
     Ok(())
 }
+
+// Asks for five names of a round under two numbers, and takes the replies to the last four. Whether each was a reply to
+// its own name.
+fn come_and_go(alloc: Global, stub: &mut Stub, round: u8) -> Result<bool, Fail> {
+    for first in b"abcde" {
+        stub.ask(alloc, name(&[*first, b'.', round])?, u16::from(*first % 2))?;
+    }
+    let mut buffer = [0; 512];
+    let mut own = true;
+    for first in b"edcb" {
+        let asked = name(&[*first, b'.', round])?;
+        let length = write_reply(&mut buffer, u16::from(*first % 2), &asked, ADDRESS);
+        let found = stub.on_datagram(front(&buffer, length));
+        own = own && found.is_some_and(|found| found.0 == asked);
+    }
+    Ok(own)
+}
+
+// More than a hundred questions come and go under two numbers: each reply takes its own, and those that stay are sent
+// again in the order of asking.
+#[test]
+fn many_questions_under_two_numbers(rt: HostRuntime) -> Result<(), Fail> {
+    let alloc = rt.alloc();
+    let mut stub = Stub::new(alloc, 1, 8);
+    for round in b"abcdefghijklmnopqrstuvwxyz" {
+        assert!(rt; come_and_go(alloc, &mut stub, *round)?);
+    }
+    let again = stub.on_beat().resends(alloc)?;
+    assert_eq!(rt; again.len(), 26);
+    for (sending, round) in again.iter().zip(b"abcdefghijklmnopqrstuvwxyz") {
+        assert!(rt; sending.question.name == name(&[b'a', b'.', *round])?);
+    }
+    Ok(())
+}

@@ -4,3 +4,4 @@ pub mod Showing
 pub mod Driving
 pub mod Falling
 pub mod Truncating
+pub mod Rows

@@ -1,6 +1,5 @@
 -- The question in flight to which a datagram is the truncated response.
-use Rattle.std.proofs.Common.{◌≡◌, ℕ, suc, ◌<◌, Bool, true, false, cond, ◌&&◌, List, [], ◌∷◌, drop, length, get_or, Some, None, refl, sym, ◌∙◌, ap}
-use Rattle.std.proofs.Math.Seq.{drop-cons}
+use Rattle.std.proofs.Common.{◌≡◌, ℕ, ◌<◌, Bool, true, false, cond, ◌&&◌, List, [], ◌∷◌, length, Some, None, refl, sym, ◌∙◌, ap}
 use Rattle.std.specs.Prelude.{is_some, nat_le}
 use Rattle.std.proofs.lemmas.Bool.{ne_eqb}
 use Rattle.pac_names.specs.Names.{Name}
@@ -31,7 +30,3 @@ pub short_cut : (datagram : List ℕ) (flights : List Flight) → length datagra
 short_cut datagram [] h = refl
 short_cut datagram (f ∷ flights) h =
     ap (λ b. cond b (Some f.question) (truncated_in flights datagram)) (without_header datagram f.question.name f.question.id h) ∙ short_cut datagram flights h
-
--- one flight more is looked at
-pub next_cut : (datagram : List ℕ) (flights : List Flight) (n : ℕ) (d : Flight) → n < length flights → truncated_in (drop n flights) datagram ≡ cond (cuts datagram (get_or flights n d)) (Some (get_or flights n d).question) (truncated_in (drop (suc n) flights) datagram)
-next_cut datagram flights n d low = ap (λ l. truncated_in l datagram) (drop-cons flights n d low)

@@ -1,4 +1,5 @@
 pub mod State
+pub mod Slots
 pub mod Ready
 pub mod Lending
 pub mod Shows

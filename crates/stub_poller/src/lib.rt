@@ -6,8 +6,13 @@
 //! poll_log, whose definitions say by counting in a log what is in flight and dead; a law ties the two.
 #![tactic(auto)]
 
+mod flights;
+mod index;
 mod laws;
 mod report;
+mod row;
+mod search;
+mod slot;
 mod stub;
 
 pub use laws::driven_shows;

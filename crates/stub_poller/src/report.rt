@@ -2,23 +2,23 @@
 ghost use Rattle.std.specs.Prelude.{
   ◌≡◌,
   ◌+◌,
-  ◌<◌,
   ◌≤◌,
   ◌++◌,
   IfOk,
   filter_map,
   length,
   map,
-  option_to_list,
   vec_capacity,
   vec_len,
 };
 ghost use Rattle.std.specs.List.{filter};
 ghost use Rattle.poll_log.specs.Sendings.{AreTerms};
 ghost use Rattle.stub_poller.specs.State.{is_over, name_of, sending_of};
+ghost use Rattle.stub_poller.specs.Slots.{flying, flying_here};
 
+use crate::slot::Slot;
 use pac_names::LookupName;
-use poll_log::{Flight, Sending, Terms, server_of};
+use poll_log::{Sending, Terms, server_of};
 use std::alloc::Global;
 use utf16_text::Memory;
 
@@ -44,26 +44,29 @@ impl BeatReport {
 }
 
 /// Puts the sendings that fall due in the place of what the list holds.
-pub(crate) fn list_resends(list: &mut Vec<Sending>, flights: &[Flight], terms: Terms)
-    requires room { length flights.now ≤ vec_capacity list.old }
+pub(crate) fn list_resends(list: &mut Vec<Sending>, row: &[Slot], terms: Terms)
+    requires room { length (flying row.now) ≤ vec_capacity list.old }
     requires terms { AreTerms terms }
-    ensures listed { list.new.items ≡ filter_map (sending_of terms) flights.now }
+    ensures listed { list.new.items ≡ filter_map (sending_of terms) (flying row.now) }
     ensures capacity { vec_capacity list.old ≤ vec_capacity list.new }
 {
     list.clear();
-    for flight in flights {
-        add_resend(list, flight, terms);
+    for slot in row {
+        add_resend(list, slot, terms);
     }
 }
 
-// Appends the sending of a question that falls due at its age, if one does.
-fn add_resend(list: &mut Vec<Sending>, flight: &Flight, terms: Terms)
-    requires room { vec_len list.old < vec_capacity list.old }
+// Appends the sending of the question that flies here, if it falls due at its age.
+fn add_resend(list: &mut Vec<Sending>, slot: &Slot, terms: Terms)
+    requires room { vec_len list.old + length (flying_here slot.now) ≤ vec_capacity list.old }
     requires terms { AreTerms terms }
-    ensures added { list.new.items ≡ list.old.items ++ option_to_list (sending_of terms flight.now) }
-    ensures few { vec_len list.new ≤ vec_len list.old + 1 }
+    ensures added { list.new.items ≡ list.old.items ++ filter_map (sending_of terms) (flying_here slot.now) }
+    ensures few { vec_len list.new ≤ vec_len list.old + length (flying_here slot.now) }
     ensures capacity { vec_capacity list.old ≤ vec_capacity list.new }
 {
+    let Slot::Flying(flight) = slot else {
+        return;
+    };
     if let Some(number) = terms.sending_at(flight.age) {
         list.push(Sending {
             to: server_of(number),
@@ -74,24 +77,39 @@ fn add_resend(list: &mut Vec<Sending>, flight: &Flight, terms: Terms)
 }
 
 /// Puts the names that are over in the place of what the list holds.
-pub(crate) fn list_deaths(list: &mut Vec<LookupName>, flights: &[Flight], limit: u32)
-    requires room { length flights.now ≤ vec_capacity list.old }
-    ensures listed { list.new.items ≡ map name_of (filter (is_over limit) flights.now) }
+pub(crate) fn list_deaths(list: &mut Vec<LookupName>, row: &[Slot], limit: u32)
+    requires room { length (flying row.now) ≤ vec_capacity list.old }
+    ensures listed { list.new.items ≡ map name_of (filter (is_over limit) (flying row.now)) }
     ensures capacity { vec_capacity list.old ≤ vec_capacity list.new }
 {
     list.clear();
-    add_deaths(list, flights, limit);
+    for slot in row {
+        add_death(list, slot, limit);
+    }
 }
 
-/// Appends the names that are over.
-pub(crate) fn add_deaths(list: &mut Vec<LookupName>, flights: &[Flight], limit: u32)
-    requires room { vec_len list.old + length flights.now ≤ vec_capacity list.old }
-    ensures listed { list.new.items ≡ list.old.items ++ map name_of (filter (is_over limit) flights.now) }
+// Appends the name of the question that flies here, if it is over.
+fn add_death(list: &mut Vec<LookupName>, slot: &Slot, limit: u32)
+    requires room { vec_len list.old + length (flying_here slot.now) ≤ vec_capacity list.old }
+    ensures added { list.new.items ≡ list.old.items ++ map name_of (filter (is_over limit) (flying_here slot.now)) }
+    ensures few { vec_len list.new ≤ vec_len list.old + length (flying_here slot.now) }
     ensures capacity { vec_capacity list.old ≤ vec_capacity list.new }
 {
-    for flight in flights {
-        if flight.age >= limit {
-            list.push(flight.question.name.copy()).unwrap();
-        }
+    let Slot::Flying(flight) = slot else {
+        return;
+    };
+    if flight.age >= limit {
+        list.push(flight.question.name.copy()).unwrap();
+    }
+}
+
+/// Appends copies of names.
+pub(crate) fn add_names(list: &mut Vec<LookupName>, names: &[LookupName])
+    requires room { vec_len list.old + length names.now ≤ vec_capacity list.old }
+    ensures added { list.new.items ≡ list.old.items ++ names.now }
+    ensures capacity { vec_capacity list.old ≤ vec_capacity list.new }
+{
+    for name in names {
+        list.push(name.copy()).unwrap();
     }
 }

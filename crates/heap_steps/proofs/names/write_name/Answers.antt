@@ -7,10 +7,10 @@ use Rattle.heap_steps.proofs.Bounds.{by_number}
 use Rattle.heap_steps.proofs.Chains.{as_part}
 use Rattle.heap_steps.proofs.names.write_name.Goals as goal
 
-pub returns-in-Slot : goal.returns-in-Slot
-returns-in-Slot c = λ this. record {
+pub returns-in_ok-write_slot-in-Slot : goal.returns-in_ok-write_slot-in-Slot
+returns-in_ok-write_slot-in-Slot c = λ this. record {
   is = λ after fuel beside. ap (λ b. write_bound (record { scope = c.args.scope; this = this }) c.args.name.now.name b c.args.value c.args.place after (state_with c.args.heap.now fuel beside)) c.in-Slot.is
-      ∙ sym (ap (λ k. after (Ok tt) (state_with k fuel beside)) (c.write_slot.ensures ∙ ap (λ (s : ScopeId). slot_written_of c.args.heap.now s c.in-Slot.slot c.args.value) c.scope_out-holder.ensures));
+      ∙ sym (ap (λ k. after (Ok tt) (state_with k fuel beside)) (c.in_ok-write_slot-in-Slot.ensures.after ∙ ap (λ (s : ScopeId). slot_written_of c.args.heap.now s c.in-Slot.slot c.args.value) c.scope_out-holder.ensures));
 }
 
 pub returns-in-Own : goal.returns-in-Own

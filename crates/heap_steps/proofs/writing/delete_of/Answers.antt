@@ -14,11 +14,11 @@ returns-in-LeftOut c = record { is = λ after fuel beside. ap (λ f. deleted_unl
 pub returns-in-Absent : goal.returns-in-Absent
 returns-in-Absent c = record {
   is = λ after fuel beside. ap (λ f. deleted_unless f c.args.object c.args.name.now c.args.place after (state_with c.args.heap.now fuel beside)) (sym c.in_ok-name.ensures ∙ c.in-Absent.is)
-      ∙ (truth_works c.args.heap.now (deleted_of c.args.heap.now c.args.object c.args.name.now) _ _ c.delete.ensures.answer c.delete.ensures.after).is after fuel beside;
+      ∙ (truth_works c.args.heap.now (deleted_of c.args.heap.now c.args.object c.args.name.now) _ _ c.in_ok-delete-in-Absent.ensures.answer c.in_ok-delete-in-Absent.ensures.after).is after fuel beside;
 }
 
 pub returns : goal.returns
 returns c = record {
   is = λ after fuel beside. ap (λ f. deleted_unless f c.args.object c.args.name.now c.args.place after (state_with c.args.heap.now fuel beside)) (sym c.in_ok-name.ensures ∙ c.in-Value.is)
-      ∙ (truth_works c.args.heap.now (deleted_of c.args.heap.now c.args.object c.args.name.now) _ _ c.delete-in-Value.ensures.answer c.delete-in-Value.ensures.after).is after fuel beside;
+      ∙ (truth_works c.args.heap.now (deleted_of c.args.heap.now c.args.object c.args.name.now) _ _ c.in_ok-delete-in-Value.ensures.answer c.in_ok-delete-in-Value.ensures.after).is after fuel beside;
 }

@@ -9,4 +9,4 @@ pub returns-in_err-object : goal.returns-in_err-object
 returns-in_err-object c = stops _ (λ (object : Value). write_slot c.args.scope c.args.slot object) _ _ _ _ c.from_residual.ensures.1 c.in_err-object.ensures
 
 pub returns : goal.returns
-returns c = chained _ (λ (object : Value). write_slot c.args.scope c.args.slot object) _ _ _ _ _ c.in_ok-object.ensures (record { is = λ after fuel beside. ap (λ k. after (Ok tt) (state_with k fuel beside)) (sym c.write_slot.ensures) })
+returns c = chained _ (λ (object : Value). write_slot c.args.scope c.args.slot object) _ _ _ _ _ c.in_ok-object.ensures (record { is = λ after fuel beside. ap (λ k. after (Ok tt) (state_with k fuel beside)) (sym c.in_ok-write_slot.ensures.after) })

@@ -19,4 +19,4 @@ pub returns-in_err-named : goal.returns-in_err-named
 returns-in_err-named c = forgets _ _ c.from_residual-in_err-named.ensures.1 refl
 
 pub returns : goal.returns
-returns c = works_then _ _ _ _ _ c.in_ok-scope.ensures (works_then (closure c.args.number c.args.arity c.in_ok-scope.scope c.args.place) (λ (f : Value). write_slot c.in_ok-scope.scope 0 f >> pure f) _ _ _ c.in_ok-value.ensures (works_back _ _ _ _ (record { is = λ after fuel beside. ap (λ h. after (Ok c.in_ok-value.value) (state_with h fuel beside)) (sym (c.write_slot.ensures ∙ ap (λ v. slot_written_of c.closure.new.heap c.in_ok-scope.scope 0 v) c.in_ok-named.ensures)) })))
+returns c = works_then _ _ _ _ _ c.in_ok-scope.ensures (works_then (closure c.args.number c.args.arity c.in_ok-scope.scope c.args.place) (λ (f : Value). write_slot c.in_ok-scope.scope 0 f >> pure f) _ _ _ c.in_ok-value.ensures (works_back _ _ _ _ (record { is = λ after fuel beside. ap (λ h. after (Ok c.in_ok-value.value) (state_with h fuel beside)) (sym (c.in_ok-write_slot.ensures.after ∙ ap (λ v. slot_written_of c.closure.new.heap c.in_ok-scope.scope 0 v) c.in_ok-named.ensures)) })))

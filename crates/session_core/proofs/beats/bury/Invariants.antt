@@ -1,6 +1,10 @@
-use Rattle.std.proofs.Common.{◌≡◌, ◌++◌, drop, map, take}
-use Rattle.session_core.specs.Sessions.{buried}
+use Rattle.std.proofs.Common.{◌≡◌, drop}
+use Rattle.session_core.specs.Waiting.{IsKept, ended_all}
 use Rattle.session_core.proofs.beats.bury.Given as goal
 
-abbrev pub invariant-loop-session : goal.invariant-loop-session
-invariant-loop-session g l = l.sessions ≡ map (buried l.stub) (take l.session-index l.fn.sessions) ++ drop l.session-index l.fn.sessions
+abbrev pub invariant-loop-name : goal.invariant-loop-name
+invariant-loop-name g l =
+    record {
+      sessions : ended_all (drop l.name-index l.dead) l.roster.all.items ≡ ended_all l.dead l.initial.roster.all.items;
+      kept : IsKept l.roster;
+    }

@@ -1,11 +1,11 @@
 use Rattle.std.proofs.Common.{ap, arith, map, refl, ◌+◌, ◌∙◌, ◌≤◌}
-use Rattle.stub_poller.specs.State.{beaten}
+use Rattle.stub_poller.specs.State.{dying}
 use Rattle.poll_loop.specs.Events.{event_of}
 use Rattle.session_core.specs.declared.session.Session.{Session}
 use Rattle.session_core.specs.Lookups.{found_at, told_name}
 use Rattle.session_core.specs.Sessions.{count_woken}
 use Rattle.session_core.proofs.Drawing.{at_error, gave_none}
-use Rattle.session_core.proofs.Turning.{buried_keeps, cascades_keep, step_fails, stepped_beat, stepped_none}
+use Rattle.session_core.proofs.Turning.{cascades_keep, ended_keeps, step_fails, stepped_beat, stepped_none}
 use Rattle.session_core.proofs.events.take_event.Goals as goal
 
 pub returns-then-not-count-clause-ok : goal.returns-then-not-count-clause-ok
@@ -19,7 +19,7 @@ returns-clause-ok g c task turns s =
 
 pub returns-in_err-told-clause-memory : goal.returns-in_err-told-clause-memory
 returns-in_err-told-clause-memory g c =
-    let few : c.args.runs.now ≤ c.args.runs.now + count_woken (told_name (found_at (event_of c.args.event) c.args.lookups.now.stub)) c.args.sessions.now = omega arith in
+    let few : c.args.runs.now ≤ c.args.runs.now + count_woken (told_name (found_at (event_of c.args.event) c.args.lookups.now.stub)) c.args.roster.now.all.items = omega arith in
     at_error c.from_residual.result (step_fails _ _ _ _ _ _ _ _ _ _ refl (gave_none _) few)
 
 pub returns-in_err-asked-clause-memory : goal.returns-in_err-asked-clause-memory
@@ -44,4 +44,4 @@ returns-then-not-count-clause-kept g c = cascades_keep _ _ _ _ _ _ _ _ _ _ c.in_
 pub returns-clause-kept : goal.returns-clause-kept
 returns-clause-kept g c =
     ap (map (λ (s : Session g.row.R.Denot g.row.R-Outcome.Denot). s.run)) c.in_ok-again.ensures.sessions
-    ∙ buried_keeps (beaten c.rerun.new.lookups.stub) c.rerun.new.sessions ∙ cascades_keep _ _ _ _ _ _ _ _ _ _ c.in_ok-asked.ensures.ok
+    ∙ ended_keeps (dying c.rerun.new.lookups.stub) c.rerun.new.roster.all.items ∙ cascades_keep _ _ _ _ _ _ _ _ _ _ c.in_ok-asked.ensures.ok
