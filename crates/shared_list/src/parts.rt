@@ -61,7 +61,7 @@ impl<T: Copied> Parts<T> {
             return Ok(());
         }
         let item = Box::new(alloc, self.base[at].copied(alloc)?)?;
-        fill(&mut self.written, self.base.len())?;
+        fill(&mut self.written, at + 1)?;
         self.written[at] = Slot::Written(item);
         Ok(())
     }

@@ -20,14 +20,14 @@ returns-clause-same g c =
     slice_get_read xs (length xs) at c.index.result.now refl within (c.index.ensures ∙ ap (λ v. get_or v.items at c.index.result.now) c.deref-2.ensures)
     ∙ ap (λ x. Some x) (sym (c.in_ok-item.ensures.ok ∙ c.in_ok-copied.ensures)) in
     let there = ap (λ l. slice_get l at) (c.in_ok-fill.ensures.same xs) ∙ merged_shared xs p.written.items at shared ∙ stands in
-    let room : at < length slots = omega (arith, within, c.in_ok-fill.ensures.enough, c.len-2.ensures ∙ ap vec_len c.deref-3.ensures ∙ p.base.value.ok.0) in
+    let room : at < length slots = omega (arith, within, c.in_ok-fill.ensures.enough) in
     ap (λ l. l ++ p.own.items) (merged-copied xs slots at (Written item) item.value room there refl ∙ c.in_ok-fill.ensures.same xs)
 
 pub returns-clause-own : goal.returns-clause-own
 returns-clause-own g c =
     let xs = c.args.self.now.base.value.items in
     let within : c.args.at < length xs = omega (arith, c.if-at-len.false, c.len.ensures ∙ ap vec_len c.deref.ensures ∙ c.args.self.now.base.value.ok.0) in
-    let room : c.args.at < length c.fill.new.written.items = omega (arith, within, c.in_ok-fill.ensures.enough, c.len-2.ensures ∙ ap vec_len c.deref-3.ensures ∙ c.args.self.now.base.value.ok.0) in
+    let room : c.args.at < length c.fill.new.written.items = omega (arith, within, c.in_ok-fill.ensures.enough) in
     record {
       within = subst (λ l. c.args.at < length l) (sym (returns-clause-same g c)) c.requires;
       own = inr (ap (λ o. is_some (written_of o)) (get-set c.fill.new.written.items c.args.at (Written c.in_ok-item.item) room));
