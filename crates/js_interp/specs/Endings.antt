@@ -10,6 +10,10 @@ use Rattle.js_evaluation.specs.Evaluation.{Gives, Fails, ending_of}
 use Rattle.heap_steps.specs.declared.halt.Halt.{Halt}
 use Rattle.heap_steps.specs.declared.halt.Halt.TheVariants as halt
 use Rattle.heap_steps.specs.Works.{Beside, state_with, plain_fault, left_out}
+use Rattle.js_runs.specs.declared.running.Cut.{Cut}
+use Rattle.js_runs.specs.declared.running.Cut.TheVariants as cut
+use Rattle.js_interp.specs.declared.one_run.Unfinished.{Unfinished}
+use Rattle.js_interp.specs.declared.one_run.Unfinished.TheVariants as unfinished
 use Rattle.js_interp.specs.declared.outcome.Ending.{Ending}
 use Rattle.js_interp.specs.declared.outcome.Ending.TheVariants as answer
 
@@ -33,3 +37,10 @@ ending_by (Some end) = Some (ending_of end)
 -- the ending is that of what the machine came to; there is none where memory was refused
 abbrev pub EndsBy : HeapView → Result (Result Value Stop) Halt → Result Ending Memory → Type 0
 EndsBy heap end result = IfOk result (λ e. (fuel : ℕ) (beside : Beside) → ending_by (end_of end (state_with heap fuel beside)) ≡ Some (seen_ending e))
+
+-- the same where the run may stop at a name
+abbrev pub EndsWith : HeapView → Result (Result Value Stop) Cut → Result Ending Unfinished → Type 0
+EndsWith heap (Err (cut.Missing name)) r = r ≡ Err (unfinished.Missing name)
+EndsWith heap (Ok end) (Ok e) = EndsBy heap (Ok end) (Ok e)
+EndsWith heap (Err (cut.Halt h)) (Ok e) = EndsBy heap (Err h) (Ok e)
+EndsWith heap end (Err why) = why ≡ unfinished.Memory

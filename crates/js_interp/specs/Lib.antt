@@ -1,3 +1,5 @@
 pub mod Endings
 pub mod Runs
 pub mod Answers
+pub mod Loads
+pub mod ImageAnswers

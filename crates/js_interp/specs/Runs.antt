@@ -11,26 +11,25 @@ use Rattle.run_trees.specs.Runs.{reading}
 use Rattle.js_evaluation.specs.State.{RunEnd, Faults, Stop, Does, AfterValue}
 use Rattle.js_evaluation.specs.Scoping.{by_slots}
 use Rattle.js_evaluation.specs.Evaluation as def
-use Rattle.js_evaluation.specs.Evaluation.{called_for, entry_in, ending_of, first_state}
+use Rattle.js_evaluation.specs.Evaluation.{called_for, entry_in, ending_of}
 use Rattle.heap_steps.specs.declared.halt.Halt.{Halt}
 use Rattle.heap_steps.specs.declared.halt.Halt.TheVariants as halt
 use Rattle.heap_steps.specs.Works.{plain_fault, left_out}
 use Rattle.js_machine.specs.declared.machine.Machine.{Machine}
+use Rattle.js_machine.specs.declared.machine.State.{State}
 use Rattle.js_machine.specs.Moves.{run_state}
 use Rattle.js_interp.specs.declared.outcome.Ending.{Ending}
 use Rattle.js_runs.specs.declared.running.Cut.{Cut}
 use Rattle.js_runs.specs.declared.running.Cut.TheVariants as cut
-use Rattle.js_interp.specs.declared.entry.Entry.{Entry}
 use Rattle.js_interp.specs.declared.one_run.Unfinished.{Unfinished}
 use Rattle.js_interp.specs.declared.one_run.Unfinished.TheVariants as unfinished
-use Rattle.js_interp.specs.Answers.{entry_of as of_entry}
 use Rattle.js_interp.specs.Endings.{seen_ending}
 
--- the machine before anything is done
-pub record Begun (functions : Bor (List Function)) (entry : Entry) (m : Machine) : Type 0 where
+-- the machine before anything is done in this state
+pub record Begun (functions : Bor (List Function)) (state : State) (m : Machine) : Type 0 where
   pub functions_are : m.functions ≡ functions
   pub none_open : m.frames ≡ []
-  pub begins : run_state m.state ≡ first_state by_slots (of_entry entry)
+  pub state_is : m.state ≡ state
 
 -- The run over the host comes to this end and state, whatever comes after it, or is at its end by a fault, or stops at a
 -- name that the host lacks.

@@ -6,9 +6,10 @@ ghost use Rattle.heap_steps.specs.Works.{plain_fault};
 ghost use Rattle.js_evaluation.specs.Evaluation as spec;
 ghost use Rattle.js_evaluation.specs.Evaluation.{Fails};
 ghost use Rattle.js_evaluation.specs.State.{Comes, RunState};
-ghost use Rattle.js_interp.specs.Endings.{EndsBy, seen_ending};
+ghost use Rattle.js_interp.specs.Endings.{EndsBy, EndsWith, seen_ending};
 
 use crate::Ending;
+use crate::one_run::Unfinished;
 use heap_steps::Halt;
 use heap_values::{Found, Kind, ObjectId, Value};
 use js_convert::to_text;
@@ -18,14 +19,30 @@ use js_host::kept_units;
 use js_machine::End;
 use js_native_calls::joined;
 use js_natives::class_of;
+use js_runs::Cut;
 use js_tree::Place;
 use object_heap::Heap;
 use run_trees::Abrupt;
 use std::alloc::Global;
 use utf16_text::{Memory, Text};
 
+/// How a run ends over a host, where it isn't stopped at a name, that comes to this with this heap.
+pub(crate) fn ended(
+    alloc: Global,
+    heap: &Heap,
+    end: Result<End, Cut>,
+) -> Result<Ending, Unfinished>
+    ensures { EndsWith heap.now end result }
+{
+    match end {
+        Ok(end) => Ok(ending(alloc, heap, Ok(end))?),
+        Err(Cut::Halt(halt)) => Ok(ending(alloc, heap, Err(halt))?),
+        Err(Cut::Missing(name)) => Err(Unfinished::Missing(name)),
+    }
+}
+
 /// How a run ends that comes to this with this heap. What is thrown and not handled is a fault.
-pub(crate) fn ending(alloc: Global, heap: &Heap, end: Result<End, Halt>) -> Result<Ending, Memory>
+fn ending(alloc: Global, heap: &Heap, end: Result<End, Halt>) -> Result<Ending, Memory>
     ensures { EndsBy heap.now end result }
 {
     match end {

@@ -8,10 +8,16 @@
 
 mod endings;
 mod entry;
+mod image;
+mod loaded_run;
 mod one_run;
 mod outcome;
+mod prepared;
 
 pub use entry::Entry;
+pub use image::{Image, LoadAnswer, load};
+pub use loaded_run::run_loaded;
 pub use js_evaluation::{Fault, FaultCode};
 pub use one_run::{RunAnswer, run};
 pub use outcome::{Ending, Outcome};
+pub use prepared::Prepared;

@@ -5,14 +5,15 @@ ghost use Rattle.js_tree.specs.Tree.{statements_of};
 ghost use Rattle.js_scope.specs.Functions as scoped;
 ghost use Rattle.js_evaluation.specs.Scoping.{by_slots};
 ghost use Rattle.js_evaluation.specs.Evaluation as spec;
-ghost use Rattle.js_machine.specs.Moves.{functions_of};
+ghost use Rattle.js_evaluation.specs.Evaluation.{fresh_state};
+ghost use Rattle.js_machine.specs.Moves.{functions_of, run_state};
 ghost use Rattle.js_host.specs.Answers.{Knowledge};
-ghost use Rattle.js_host.specs.Seen.{fresh};
+ghost use Rattle.js_host.specs.Seen.{fresh as untold};
 ghost use Rattle.js_interp.specs.Answers.{Answers, entry_of, run_of};
 ghost use Rattle.js_interp.specs.Runs.{Begun, EndsOver, KeepsAlerts, RunsBy, called};
 ghost use Rattle.js_runs.specs.Closes.{KeptAtEnd};
 
-use crate::endings::ending;
+use crate::endings::ended;
 use crate::{Ending, Entry, Outcome};
 use heap_steps::{Halt, callable, test_text};
 use heap_values::{BuiltIn, Found, ObjectId, Value};
@@ -23,6 +24,8 @@ use js_machine::{End, Machine, Part, State};
 use js_runs::{Cut, run_on};
 use js_scope::Program;
 use js_tree::{Function, Statement};
+use pac_calendar::Moments;
+use pac_functions::PacSettings;
 use object_heap::Heap;
 use pac_names::LookupName;
 use std::alloc::Global;
@@ -51,7 +54,7 @@ pub fn run<H: Host, L: Ledger>(
     host: &mut H,
     runs: &mut Steps<L>,
 ) -> RunAnswer
-    ensures answers { (known : Knowledge) → H.seen host.old ≡ fresh known
+    ensures answers { (known : Knowledge) → H.seen host.old ≡ untold known
         → Answers (run_of (statements_of program.now.body) (scoped.functions_of program.now.functions) entry.entry.now)
         known result (H.seen host.new) }
     ensures counts { runs.new ≡ runs.old + 1 }
@@ -95,32 +98,55 @@ fn run_over<H: Host>(
     ensures ends { EndsOver (run_of (statements_of program.now.body) (scoped.functions_of program.now.functions) entry.entry.now) (H.seen host.old) result (H.seen host.new) }
     ensures keeps { alerts.old ≡ (H.seen host.old).alerts → KeepsAlerts result alerts.new (H.seen host.new).alerts }
 {
-    let mut machine = begin(alloc, program.functions.as_slice(), entry)?;
-    match run_whole(&mut machine, program.body.as_slice(), entry, host, alerts) {
-        Ok(end) => Ok(ending(alloc, &machine.state.heap, Ok(end))?),
-        Err(Cut::Halt(halt)) => Ok(ending(alloc, &machine.state.heap, Err(halt))?),
-        Err(Cut::Missing(name)) => Err(Unfinished::Missing(name)),
-    }
+    let state = fresh(alloc, Some(entry.now), entry.settings, entry.fuel)?;
+    let mut machine = begin(alloc, program.functions.as_slice(), state)?;
+    let end = run_whole(&mut machine, program.body.as_slice(), entry, host, alerts);
+    ended(alloc, &machine.state.heap, end)
 }
 
-/// The machine before anything is done.
-fn begin<'p>(alloc: Global, functions: &'p [Function], entry: &Entry) -> Result<Machine<'p>, Memory>
-    ensures { IfOk result (λ machine. Begun functions.entry entry.entry.now machine) }
+/// The state before anything is done.
+pub(crate) fn fresh(
+    alloc: Global,
+    now: Option<Moments>,
+    settings: PacSettings,
+    fuel: u64,
+) -> Result<State, Memory>
+    ensures { IfOk result (λ state. run_state state ≡ fresh_state by_slots now settings fuel) }
 {
     let heap = Heap::new(alloc)?;
-    let this = Value::Object(heap.built_in(BuiltIn::Global));
-    let scope = heap.outer();
+    Ok(State {
+        heap,
+        fuel,
+        now,
+        settings,
+    })
+}
+
+/// A machine in this state, with no part open, in the outermost scope. functions: those of the script.
+pub(crate) fn begin<'p>(
+    alloc: Global,
+    functions: &'p [Function],
+    state: State,
+) -> Result<Machine<'p>, Memory>
+    ensures { IfOk result (λ machine. Begun functions.entry state machine) }
+{
+    let this = Value::Object(state.heap.built_in(BuiltIn::Global));
+    let scope = state.heap.outer();
     Ok(Machine {
         alloc,
         functions,
         context: Context { scope, this },
         frames: Frames::new(alloc)?,
+<<<<<<< ours
         state: State {
             heap,
             fuel: entry.fuel,
             now: Some(entry.now),
             settings: entry.settings,
         },
+=======
+        state,
+>>>>>>> theirs
     })
 }
 
@@ -145,7 +171,7 @@ fn run_whole<'p, H: Host>(
 
 /// Calls the function of the script, where there is one and both texts are short enough. functions: those of the script
 /// that is loaded.
-fn call_entry<'p, H: Host>(
+pub(crate) fn call_entry<'p, H: Host>(
     machine: &mut Machine<'p>,
     functions: &'p [Function],
     entry: &Entry,

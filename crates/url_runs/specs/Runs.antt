@@ -37,7 +37,7 @@ pub record Work : Type 0 where
 
 -- the script, and what it is run for
 abbrev pub seen_run : UrlRun → ScriptRuns × Entry
-seen_run run = (program_runs run.program.now, entry_of run.entry)
+seen_run run = (program_runs run.program.now.program.now, entry_of run.entry)
 
 abbrev pub seen_for : ScriptRuns → code.Entry → ScriptRuns × Entry
 seen_for program entry = (program, entry_of entry)

@@ -7,6 +7,7 @@
 
 mod laws;
 mod mapping;
+mod preparing;
 mod reports;
 mod resolving;
 mod url_run;

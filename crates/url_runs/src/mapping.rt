@@ -10,9 +10,10 @@ ghost use Rattle.url_runs.specs.Runs.{outcome_of, program_runs, seen_work};
 ghost use Rattle.url_runs.specs.Mapping as plan;
 
 use crate::Work;
+use crate::preparing::prepared_once;
 use crate::reports::reported;
 use answer_table::AnswerTable;
-use js_interp::{Entry, Outcome, RunAnswer, run};
+use js_interp::{Entry, Outcome, Prepared, RunAnswer};
 use js_scope::Program;
 use pac_plan::Output;
 use report_text::{End, UrlEnd};
@@ -57,6 +58,22 @@ fn run_each<L: Ledger>(
     ensures ran { OnOk result (runs.new ≡ runs.old + length entries.items) }
     ensures memory { OnErr result ((done : ℕ) × (done ≤ length entries.items) × (runs.new ≡ runs.old + done)) }
 {
+    let program = prepared_once(alloc, program, &entries)?;
+    run_prepared(alloc, &program, entries, answers, runs)
+}
+
+// The same, once the script is loaded where that serves several runs.
+fn run_prepared<L: Ledger>(
+    alloc: Global,
+    program: &Prepared,
+    entries: Vec<Entry>,
+    answers: &AnswerTable,
+    runs: &mut Steps<L>,
+) -> Result<Vec<UrlEnd>, Memory>
+    ensures ends { IfOk result (λ ends. map seen_end ends.items ≡ map (plan.mapped (program_runs program.now.program.now) answers.now) (map entry_of entries.items)) }
+    ensures ran { OnOk result (runs.new ≡ runs.old + length entries.items) }
+    ensures memory { OnErr result ((done : ℕ) × (done ≤ length entries.items) × (runs.new ≡ runs.old + done)) }
+{
     let mut ends = Vec::new(alloc);
     for entry in entries {
         let outcome = run_against(alloc, program, &entry, answers, runs)?;
@@ -71,16 +88,16 @@ fn run_each<L: Ledger>(
 /// The outcome of one run.
 fn run_against<L: Ledger>(
     alloc: Global,
-    program: &Program,
+    program: &Prepared,
     entry: &Entry,
     answers: &AnswerTable,
     runs: &mut Steps<L>,
 ) -> Result<Outcome, Memory>
-    ensures outcome { IfOk result (λ outcome. outcome_of (program_runs program.now) answers.now (entry_of entry.entry.now) ≡ seen_outcome outcome) }
+    ensures outcome { IfOk result (λ outcome. outcome_of (program_runs program.now.program.now) answers.now (entry_of entry.entry.now) ≡ seen_outcome outcome) }
     ensures ran { runs.new ≡ runs.old + 1 }
 {
     let mut host = MapHost::new(alloc, answers);
-    match run(alloc, program, entry, &mut host, runs) {
+    match program.run(alloc, entry, &mut host, runs) {
         RunAnswer::Done(outcome) => Ok(outcome),
         RunAnswer::Missing(_) => unreachable!("the host knows every name"),
         RunAnswer::Memory => Err(Memory),

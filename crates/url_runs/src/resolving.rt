@@ -13,10 +13,11 @@ ghost use Rattle.url_runs.specs.Ends.{HaveEnded, IsSaid, end_of, seen_ends, sess
 ghost use Rattle.url_runs.specs.Resolving as plan;
 ghost use Rattle.url_runs.specs.Resolving.{Completion};
 
+use crate::preparing::prepared;
 use crate::reports::reported;
 use crate::{UrlRun, Work};
 use batch_text::Batch;
-use js_interp::{Entry, Outcome};
+use js_interp::{Entry, Outcome, Prepared};
 use js_scope::Program;
 use pac_plan::{Output, Status, line};
 use pac_ports::{Dice, Link};
@@ -86,6 +87,26 @@ pub fn end_urls<N: Link, D: Dice, L: Ledger>(
     ensures { (o : Outside) → HaveEnded upstream (program_runs program.now) (map entry_of entries.items)
         (around o (N.state link.old) (D.told dice.old) runs.old) (seen_ends result) (around o (N.state link.new) (D.told dice.new) runs.new) }
 {
+    match prepared(alloc, program, &entries) {
+        Ok(program) => end_prepared(alloc, &program, entries, upstream, link, dice, runs),
+        Err(Memory) => Err(PollError::Memory),
+    }
+}
+
+// The same, once the script is loaded.
+fn end_prepared<N: Link, D: Dice, L: Ledger>(
+    alloc: Global,
+    program: &Prepared,
+    entries: Vec<Entry>,
+    upstream: Upstream,
+    link: &mut N,
+    dice: &mut D,
+    runs: &mut Steps<L>,
+) -> Result<Vec<UrlEnd>, PollError>
+    requires { AreTerms upstream.terms }
+    ensures { (o : Outside) → HaveEnded upstream (program_runs program.now.program.now) (map entry_of entries.items)
+        (around o (N.state link.old) (D.told dice.old) runs.old) (seen_ends result) (around o (N.state link.new) (D.told dice.new) runs.new) }
+{
     let Ok(all) = runs_for(alloc, program, entries) else {
         return Err(PollError::Memory);
     };
@@ -98,10 +119,10 @@ pub fn end_urls<N: Link, D: Dice, L: Ledger>(
 
 fn runs_for<'p>(
     alloc: Global,
-    program: &'p Program,
+    program: &'p Prepared<'p>,
     entries: Vec<Entry>,
 ) -> Result<Vec<UrlRun<'p>>, Memory>
-    ensures { IfOk result (λ all. map seen_run all.items ≡ map (seen_for (program_runs program.now)) entries.items) }
+    ensures { IfOk result (λ all. map seen_run all.items ≡ map (seen_for (program_runs program.now.program.now)) entries.items) }
 {
     let mut all = Vec::new(alloc);
     for entry in entries {

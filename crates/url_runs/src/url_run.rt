@@ -1,7 +1,6 @@
 // A script and a URL that it is run for.
 use js_host::Host;
-use js_interp::{Entry, Outcome, RunAnswer, run};
-use js_scope::Program;
+use js_interp::{Entry, Outcome, Prepared, RunAnswer};
 use session_core::{Attempt, Run};
 use std::alloc::Global;
 use std::sync::ledger::Ledger;
@@ -10,7 +9,7 @@ use step_counter::Steps;
 /// A script, and what it is run for.
 #[derive(Drop)]
 pub struct UrlRun<'p> {
-    pub program: &'p Program,
+    pub program: &'p Prepared<'p>,
     pub entry: Entry,
 }
 
@@ -35,7 +34,7 @@ impl<'p> Run for UrlRun<'p> {
         host: &mut H,
         runs: &mut Steps<L>,
     ) -> Attempt<Outcome> {
-        match run(alloc, self.program, &self.entry, host, runs) {
+        match self.program.run(alloc, &self.entry, host, runs) {
             RunAnswer::Done(outcome) => Attempt::Done(outcome),
             RunAnswer::Missing(name) => Attempt::Missing(name),
             RunAnswer::Memory => Attempt::Memory,

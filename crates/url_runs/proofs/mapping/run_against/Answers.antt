@@ -6,7 +6,7 @@ use Rattle.url_runs.proofs.mapping.run_against.Goals as goal
 
 pub returns-in-Done-clause-outcome : goal.returns-in-Done-clause-outcome
 returns-in-Done-clause-outcome g c =
-    outcome_is (program_runs c.args.program.now) (entry_of c.args.entry.now) c.args.answers.now c.in-Done.outcome _
+    outcome_is (program_runs c.args.program.now.program.now) (entry_of c.args.entry.now) c.args.answers.now c.in-Done.outcome _
     (c.in-Done.ensures.answers (wholly c.args.answers.now) c.new-host.ensures)
 
 -- the host knows every name
