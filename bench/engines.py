@@ -100,8 +100,8 @@ def one_call(folder, script, found):
     return [ours, *([path, theirs] for path in found.values())]
 
 
-def run(words):
-    """The seconds of a process, and its peak in megabytes, which the system tells as no less than that of this one."""
+def finished(words):
+    """The seconds of a process, and what the system tells of its use."""
     nothing = [(os.POSIX_SPAWN_OPEN, 1, os.devnull, os.O_WRONLY, 0)]
     start = time.perf_counter()
     child = os.posix_spawn(words[0], words, os.environ, file_actions=nothing)
@@ -109,12 +109,24 @@ def run(words):
     seconds = time.perf_counter() - start
     if status != 0:
         sys.exit(f"{words} ended with {os.waitstatus_to_exitcode(status)}")
+    return seconds, usage
+
+
+def run(words):
+    """The seconds of a process, and its peak in megabytes, which the system tells as no less than that of this one."""
+    seconds, usage = finished(words)
     return seconds, usage.ru_maxrss / 1024
 
 
-def best(commands, rounds):
+def processor_seconds(words):
+    """The seconds that a process had a processor, which tell of less than a millisecond where others run beside it."""
+    _, usage = finished(words)
+    return usage.ru_utime + usage.ru_stime
+
+
+def best(commands, rounds, seconds=lambda words: run(words)[0]):
     """The best seconds of each command, the commands in turn."""
-    runs = [[run(words)[0] for words in commands] for _ in range(rounds)]
+    runs = [[seconds(words) for words in commands] for _ in range(rounds)]
     return [min(column) for column in zip(*runs)]
 
 

@@ -2,9 +2,9 @@
 and servers that delay, lose, double, reorder and forge, or are silent.
 
 The large batch has 256 URLs, whose script asks for the name of each host and for one of ten that they share; what is
-written is compared whole with what this file computes. A name that is asked for its IPv6 address stands in this file
-with ` AAAA` behind it, as in reports. Without dnsmasq (a Debian package) its part says 'skipped'. The commands are run
-as `./pac`, or as the words of the environment's PAC.
+written is compared whole with what this file computes. Another batch as large has a script whose load takes a while. A
+name that is asked for its IPv6 address stands in this file with ` AAAA` behind it, as in reports. Without dnsmasq (a
+Debian package) its part says 'skipped'. The commands are run as `./pac`, or as the words of the environment's PAC.
 """
 import collections
 import heapq
@@ -52,11 +52,14 @@ def report(*blocks):
 
 
 def tries(end):
-    """The lines of the proxies of a result, which the scripts of this file write as a report does."""
-    return [f"try {proxy}" for proxy in end.removeprefix("result ").split("; ")] if end.startswith("result ") else []
+    """The lines of the proxies of a result, which the scripts of this file write as a report does, but for one port."""
+    if not end.startswith("result "):
+        return []
+    proxies = end.removeprefix("result ").split("; ")
+    return [f"try {proxy}" if ":" in proxy or proxy == "DIRECT" else f"try {proxy}:80" for proxy in proxies]
 
 
-def resolve_at(server, script, urls, *options):
+def resolve_at(server, script, urls, *options, seconds=120):
     """What `pac resolve` writes for a batch, and its status."""
     with tempfile.TemporaryDirectory() as folder:
         names = [os.path.join(folder, name) for name in ("script.pac", "batch")]
@@ -64,12 +67,12 @@ def resolve_at(server, script, urls, *options):
             with open(name, "w", encoding="ascii") as file:
                 file.write(text)
         words = [*PAC, "resolve", names[0], "--batch", names[1], f"--server={server}", *options]
-        found = subprocess.run(words, stdout=subprocess.PIPE, stderr=subprocess.PIPE, timeout=120, check=False)
+        found = subprocess.run(words, stdout=subprocess.PIPE, stderr=subprocess.PIPE, timeout=seconds, check=False)
     return found.stdout + found.stderr, found.returncode
 
 
-def resolve(port, script, urls, *options):
-    return resolve_at(f"127.0.0.1:{port}", script, urls, *options)
+def resolve(port, script, urls, *options, seconds=120):
+    return resolve_at(f"127.0.0.1:{port}", script, urls, *options, seconds=seconds)
 
 
 # the types of questions and records (RFC 1035, section 3.2.2, and RFC 3596, section 2.1)
@@ -638,6 +641,26 @@ def with_a_dead_name(failures):
     return 1
 
 
+# a script that counts to a million while it is loaded, and asks 32 names, each of which is a run more
+LONG_LOAD = """for (var i = 0; i < 1000000; i++);
+function FindProxyForURL(u, h) { for (var k = 0; k < 32; k++) dnsResolve("h" + k + ".example"); return "PROXY n" + i; }
+"""
+
+
+def with_a_long_load(failures):
+    """8,448 runs, which would be more than an hour if each of them loaded the script."""
+    server = Server(lambda asked: [(0, reply(asked.datagram, None))])
+    urls, expected = [A] * 256, (report(*[(A, "result PROXY n1000000", 33)] * 256), 0)
+    try:
+        found = server.beside(lambda port: resolve(port, LONG_LOAD, urls, *PATIENT, seconds=60))
+        compare(failures, "a long load", found, expected)
+    except subprocess.TimeoutExpired:
+        failures.append("a long load: 256 URLs have not ended within a minute")
+    if set(server.questions) != {f"h{k}.example" for k in range(32)} or counts_of(server) != {1}:
+        failures.append(f"a long load: the questions were {dict(server.questions)}")
+    return 1
+
+
 def without_a_server(failures):
     port = free_port()
     expected = report_of([PLAIN, A, B], [DIRECT, SILENT, SILENT_B])
@@ -658,7 +681,7 @@ def without_a_server(failures):
 def main():
     failures = []
     parts = [with_scripted_servers, with_pairs, beside_a_silent_server, with_dnsmasq, with_small_batches]
-    parts += [with_small_pairs, with_other_sockets, with_a_dead_name, without_a_server, with_families]
+    parts += [with_small_pairs, with_other_sockets, with_a_dead_name, with_a_long_load, without_a_server, with_families]
     count = sum(part(failures) for part in parts)
     for failure in failures:
         print(f"checks/resolve: {failure}")

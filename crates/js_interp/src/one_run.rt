@@ -137,16 +137,7 @@ pub(crate) fn begin<'p>(
         functions,
         context: Context { scope, this },
         frames: Frames::new(alloc)?,
-<<<<<<< ours
-        state: State {
-            heap,
-            fuel: entry.fuel,
-            now: Some(entry.now),
-            settings: entry.settings,
-        },
-=======
         state,
->>>>>>> theirs
     })
 }
 

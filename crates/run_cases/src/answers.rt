@@ -11,17 +11,28 @@ use utf16_text::Text;
 pub(crate) fn written(alloc: Global, answer: &RunAnswer, asked: &[LookupName]) -> Result<String> {
     match answer {
         RunAnswer::Done(outcome) => written_outcome(alloc, &outcome.copy(alloc)?, asked),
+        _ => {
+            let mut told = written_end(alloc, answer)?;
+            tell_names(asked, &mut told)?;
+            Ok(told)
+        }
+    }
+}
+
+/// How a run ended, or the name that was missing.
+pub(crate) fn written_end(alloc: Global, answer: &RunAnswer) -> Result<String> {
+    match answer {
+        RunAnswer::Done(outcome) => written_ending(alloc, &outcome.ending),
         RunAnswer::Missing(name) => {
             let mut told = format!(in alloc; "missing ")?;
             tell_name(name, &mut told)?;
-            tell_names(asked, &mut told)?;
             Ok(told)
         }
         RunAnswer::Memory => bail!("memory"),
     }
 }
 
-/// The same in numbers: how a run ended, how many names it asked, and how many alerts it has.
+/// An answer in numbers: how a run ended, how many names it asked, and how many alerts it has.
 pub(crate) fn written_in_numbers(
     alloc: Global,
     answer: &RunAnswer,

@@ -3,17 +3,20 @@
 //! The rows are written from ECMA-262 edition 5.1, sections 8 to 13, 15 and B.2.3, and from the page on the Netscape
 //! Navigator Proxy Auto-Config format, as the profile in docs/LANGUAGE.md has them. Each script is run twice over fresh
 //! hosts, and must come to the same: how it ends, the names that it asks and the alerts that are kept, or each call
-//! that it makes of its host, in their order. In each run it is Tuesday, 14 November 2023, 22:13:20 in GMT, and five
-//! hours later in the zone; the machine is 192.168.1.10. It reads the rows from its input, and stands on js_parser,
-//! js_scope and js_interp.
+//! that it makes of its host, in their order. A script of the part `images` is run from an image of its load too, where
+//! it has one, and must come to the same as without it. In each run it is Tuesday, 14 November 2023, 22:13:20 in GMT,
+//! and five hours later in the zone, where no other moment is named; the machine is 192.168.1.10. It reads the rows from
+//! its input, and stands on js_parser, js_scope and js_interp.
 #![tactic(auto)]
 
 mod answers;
+mod images;
 mod noting_host;
 mod scripts;
 mod surroundings;
 
 use anyhow::{Result, bail};
+use images::image_and_end;
 use scripts::{calls_of_host, counted, outcome, outcome_of_known};
 use std::alloc::Global;
 
@@ -34,6 +37,7 @@ fn answer(alloc: Global, part: &str, fields: &[&str]) -> Result<String> {
         "fuel" => fueled(alloc, fields),
         "repeated" => repeated(alloc, fields),
         "calls of the host" => calls(alloc, fields),
+        "images" => imaged(alloc, fields),
         _ => bail!("no part {part}"),
     }
 }
@@ -66,6 +70,15 @@ fn fueled(alloc: Global, fields: &[&str]) -> Result<String> {
         bail!("a script and fuel");
     };
     outcome(alloc, script, fuel.parse::<u64>()?)
+}
+
+/// A script that is loaded for many runs, with so much fuel where its row says it.
+fn imaged(alloc: Global, fields: &[&str]) -> Result<String> {
+    match fields {
+        [script] => image_and_end(alloc, script, FUEL),
+        [script, fuel] => image_and_end(alloc, script, fuel.parse::<u64>()?),
+        _ => bail!("a script, and perhaps fuel"),
+    }
 }
 
 /// The calls that a script makes of a host that knows these names.

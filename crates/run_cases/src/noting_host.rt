@@ -16,7 +16,7 @@ enum Call {
     Alert(Text),
 }
 
-/// A host that writes down each of its calls.
+/// A host that writes down each of its calls; an alert as it is kept, and not at all where it isn't.
 #[derive(Drop)]
 pub(crate) struct NotingHost<'t> {
     host: TracingHost<'t>,
@@ -29,6 +29,11 @@ impl<'t> NotingHost<'t> {
             host: TracingHost::new(alloc, known),
             calls: Vec::new(alloc),
         }
+    }
+
+    /// The names that the host was asked, each once.
+    pub(crate) fn asked(&self) -> &[LookupName] {
+        self.host.asked().as_slice()
     }
 
     /// The calls, in their order.
@@ -55,8 +60,12 @@ impl<'t> Host for NotingHost<'t> {
     }
 
     fn alert(&mut self, alloc: Global, text: &Text) -> Result<(), Memory> {
-        self.calls.push(Call::Alert(text.copy(alloc)?))?;
-        self.host.alert(alloc, text)
+        let before = self.host.alerts().as_slice().len();
+        self.host.alert(alloc, text)?;
+        if let Some(kept) = self.host.alerts().as_slice().get(before) {
+            self.calls.push(Call::Alert(kept.copy(alloc)?))?;
+        }
+        Ok(())
     }
 }
 

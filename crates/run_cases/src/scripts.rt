@@ -39,6 +39,32 @@ pub(crate) fn calls_of_host(alloc: Global, source: &str, known: &str, fuel: u64)
     })
 }
 
+/// A script as it is read.
+pub(crate) enum Reading {
+    Program(Program),
+    /// How it is refused.
+    Refused(String),
+}
+
+pub(crate) fn reading_of(alloc: Global, source: &str) -> Result<Reading> {
+    let source = text(alloc, source)?;
+    ensure!(
+        source.len() <= 1_048_576,
+        "a script of at most 1,048,576 units"
+    );
+    match read_script(alloc, &source) {
+        Ok(script) => {
+            let program = resolve(alloc, script).context("memory")?;
+            Ok(Reading::Program(program))
+        }
+        Err(ReadAnswer::Refused(kind, place)) => {
+            let refusal = format!(in alloc; "refused {kind:?} at {place}")?;
+            Ok(Reading::Refused(refusal))
+        }
+        Err(ReadAnswer::Memory) => bail!("memory"),
+    }
+}
+
 /// What is told of a script each time that it is run.
 fn told_twice<F: Fn(Global, &Program, &Entry) -> Result<String>>(
     alloc: Global,
@@ -48,19 +74,10 @@ fn told_twice<F: Fn(Global, &Program, &Entry) -> Result<String>>(
 ) -> Result<String>
     requires { F.IsAlwaysCallable tell }
 {
-    let source = text(alloc, source)?;
-    ensure!(
-        source.len() <= 1_048_576,
-        "a script of at most 1,048,576 units"
-    );
-    let script = match read_script(alloc, &source) {
-        Ok(script) => script,
-        Err(ReadAnswer::Refused(kind, place)) => {
-            return Ok(format!(in alloc; "refused {kind:?} at {place}")?);
-        }
-        Err(ReadAnswer::Memory) => bail!("memory"),
+    let program = match reading_of(alloc, source)? {
+        Reading::Program(program) => program,
+        Reading::Refused(refusal) => return Ok(refusal),
     };
-    let program = resolve(alloc, script).context("memory")?;
     let entry = entry_with(alloc, fuel)?;
     let first = tell(alloc, &program, &entry)?;
     let second = tell(alloc, &program, &entry)?;
@@ -68,7 +85,7 @@ fn told_twice<F: Fn(Global, &Program, &Entry) -> Result<String>>(
     Ok(first)
 }
 
-fn entry_with(alloc: Global, fuel: u64) -> Result<Entry> {
+pub(crate) fn entry_with(alloc: Global, fuel: u64) -> Result<Entry> {
     Ok(Entry {
         url: text(alloc, "http://example.com/a")?,
         host: text(alloc, "example.com")?,

@@ -29,6 +29,28 @@ pub(crate) const NOW: Moments = Moments {
     },
 };
 
+/// The same clocks at another moment, on a Saturday.
+pub(crate) const LATER: Moments = Moments {
+    gmt: Civil {
+        year: 2023,
+        month: 11,
+        day: 18,
+        weekday: 6,
+        hour: 9,
+        minute: 33,
+        second: 20,
+    },
+    local: Civil {
+        year: 2023,
+        month: 11,
+        day: 18,
+        weekday: 6,
+        hour: 14,
+        minute: 33,
+        second: 20,
+    },
+};
+
 /// The machine is 192.168.1.10.
 pub(crate) const SETTINGS: PacSettings = PacSettings { my_ip: 0xC0A8_010A };
 
