@@ -27,11 +27,7 @@ use std::alloc::Global;
 use utf16_text::{Memory, Text};
 
 /// How a run ends over a host, where it isn't stopped at a name, that comes to this with this heap.
-pub(crate) fn ended(
-    alloc: Global,
-    heap: &Heap,
-    end: Result<End, Cut>,
-) -> Result<Ending, Unfinished>
+pub(crate) fn ended(alloc: Global, heap: &Heap, end: Result<End, Cut>) -> Result<Ending, Unfinished>
     ensures { EndsWith heap.now end result }
 {
     match end {

@@ -16,8 +16,8 @@ mod prepared;
 
 pub use entry::Entry;
 pub use image::{Image, LoadAnswer, load};
-pub use loaded_run::run_loaded;
 pub use js_evaluation::{Fault, FaultCode};
+pub use loaded_run::run_loaded;
 pub use one_run::{RunAnswer, run};
 pub use outcome::{Ending, Outcome};
 pub use prepared::Prepared;

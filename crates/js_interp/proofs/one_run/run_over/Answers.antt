@@ -17,8 +17,8 @@ returns-clause-ends g c =
     let before = g.H.Host.seen c.args.host.now in
     ends_whole _ before (script_run by_slots (functions_of m) entry (statements_of c.as_slice-2.result.now)) m before
     (run_begins c.args.program.now.body c.as_slice-2.result.now c.args.program.now.functions entry m before c.as_slice-2.ensures
-        (ap (λ (b : Bor (List Function)). b.now) begun.functions_are ∙ c.as_slice.ensures)
-        (ap run_state begun.state_is ∙ c.in_ok-state.ensures))
+    (ap (λ (b : Bor (List Function)). b.now) begun.functions_are ∙ c.as_slice.ensures)
+    (ap run_state begun.state_is ∙ c.in_ok-state.ensures))
     c.run_whole.new.machine (g.H.Host.seen c.run_whole.new.host) c.run_whole.result _ c.run_whole.ensures.runs c.ended.ensures
 
 pub returns-clause-keeps : goal.returns-clause-keeps
