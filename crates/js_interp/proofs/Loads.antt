@@ -1,84 +1,87 @@
 -- The load of a script for many runs, and a run that goes on from it.
-use Rattle.std.proofs.Common.{◌≡◌, ℕ, ◌≤◌, refl, sym, ap, subst, ◌∙◌, List, [], ◌∷◌, ◌++◌, Option, Some, None, Result, Ok, Err, false, true, map, fold, take, min, arith}
+use Rattle.std.proofs.Common.{◌≡◌, ℕ, Bool, refl, sym, ap, subst, ◌∙◌, List, [], ◌∷◌, ◌++◌, Option, Some, None, Result, Ok, Err, true, map, fold, take, arith}
 use Rattle.std.specs.FinMap as finite
 use Rattle.std.proofs.lemmas.List.{append_assoc, append-nil, length-take, take_all, take-map}
-use Rattle.std.specs.Prelude.{length}
+use Rattle.std.specs.Prelude.{is_ok, IfOk, IfSome}
+use Rattle.utf16_text.specs.declared.memory.Memory.{Memory}
 use Rattle.js_tree.specs.declared.expression.Function.{Function}
 use Rattle.js_tree.specs.declared.statement.Statement.{Statement}
-use Rattle.js_tree.specs.Tree.{FunctionTree, Statements, statements_of}
+use Rattle.js_tree.specs.Tree.{FunctionTree, statements_of}
 use Rattle.js_tree.specs.View.{function_of}
 use Rattle.js_scope.specs.declared.program.Program.{Program}
 use Rattle.js_scope.specs.Functions as scoped
 use Rattle.heap_values.specs.declared.value.Value.{Value}
-use Rattle.pac_calendar.specs.declared.moment.Moments.{Moments}
 use Rattle.pac_functions.specs.declared.call.PacSettings.{PacSettings}
-use Rattle.js_host.specs.Answers.{AnswerMap, Knowledge, Extends, Completes, partly}
+use Rattle.js_host.specs.Answers.{AnswerMap, Knowledge, partly}
 use Rattle.js_host.specs.Seen.{Seen, alerted, fresh, kept_alerts, with_alert}
 use Rattle.js_host.specs.declared.limits.TheConstants.{MOST_ALERTS, MOST_UNITS}
-use Rattle.run_trees.specs.RunTree.{RunTree, Done, Walked, Ended, Stopped, walk}
+use Rattle.run_trees.specs.RunTree.{RunTree, Walked, Ended, Stopped, walk}
 use Rattle.run_trees.specs.Runs.{onward}
 use Rattle.run_trees.specs.WholeRun.{whole_run}
 use Rattle.run_trees.specs.Laws.{Restarts}
 use Rattle.run_trees.proofs.Kept.{with_alert-kept}
 use Rattle.run_trees.proofs.Restarting.{restarts}
 use Rattle.js_evaluation.specs.Scoping.{by_slots}
-use Rattle.js_evaluation.specs.State.{RunEnd, RunState, Comes, Faults, Stop, Does, AfterValue}
+use Rattle.js_evaluation.specs.State.{RunEnd, RunState, Comes, Faults, Stop, Does}
 use Rattle.js_evaluation.specs.Evaluation as def
 use Rattle.js_evaluation.specs.Evaluation.{first_state, fresh_state, load_tree, loaded, run_tree}
 use Rattle.js_law_evaluation.specs.Laws.{at_moment, heard}
 use Rattle.js_law_evaluation.proofs.OfLoads.{loads_at_each_moment}
-use Rattle.heap_steps.specs.declared.halt.Halt.{Halt}
 use Rattle.heap_steps.specs.declared.halt.Halt.TheVariants as halt
 use Rattle.js_machine.specs.declared.machine.Machine.{Machine}
 use Rattle.js_machine.specs.Moves.{functions_of, run_state}
 use Rattle.js_runs.specs.declared.running.Cut.{Cut}
 use Rattle.js_runs.specs.declared.running.Cut.TheVariants as cut
-use Rattle.js_interp.specs.Loads.{Beginning, ImageView, IsImageOf, beginning_in, beginning_of, program_beginning}
-use Rattle.js_interp.specs.Runs.{Reaches, RunsBy, called}
+use Rattle.js_interp.specs.ImageAnswers.{ends_cut}
+use Rattle.js_interp.specs.Loads.{Beginning, ImageView, IsImageOf, alone, beginning_in, beginning_where, program_beginning}
+use Rattle.js_interp.specs.Runs.{RunsBy, called}
 use Rattle.js_interp.proofs.Ends.{final}
 
 -- ---- the load
 
--- what comes after a load that is done alone
-abbrev alone : AfterValue
-alone = λ result state. Done (Comes result state)
+-- what is done before nothing else, and what a machine comes to by it
+module _ (part : Does Value) (m : Machine) (before : Seen) (m' : Machine) (after : Seen) where
+  abbrev pub Comes_to : Bool → Type 0
+  Comes_to ends = beginning_in (walk (part alone (run_state m.state)) before) ≡ beginning_where ends (run_state m'.state) after.alerts
 
--- a load that comes to something else gives no beginning; want of memory promises nothing
-abbrev GivesNone : Result (Result Value Stop) Cut → Type 0
-GivesNone (Ok (Ok value)) = ⊥
-GivesNone (Err (cut.Halt halt.Memory)) = ⊥
-GivesNone r = Unit {0}
-
-module _ (program : Program) (settings : PacSettings) (fuel : ℕ) (body : List Statement) (m : Machine) (before : Seen)
-    (same_body : body ≡ program.body) (same_functions : m.functions.now ≡ program.functions)
-    (state : run_state m.state ≡ fresh_state by_slots None settings fuel) (untold : before ≡ fresh (partly finite.empty))
-    (m' : Machine) (after : Seen) where
-  -- the load that the definition speaks of is what the machine does
-  same_walk : walk (load_tree (statements_of program.body) (scoped.functions_of program.functions) settings fuel) (fresh (partly finite.empty))
-      ≡ walk (loaded by_slots (functions_of m) (statements_of body) alone (run_state m.state)) before
-  same_walk =
-      ap (λ (ss : List Statement). walk (loaded by_slots (map function_of program.functions) (statements_of ss) alone (fresh_state by_slots None settings fuel)) (fresh (partly finite.empty))) (sym same_body)
-      ∙ ap (λ (fs : List Function). walk (loaded by_slots (map function_of fs) (statements_of body) alone (fresh_state by_slots None settings fuel)) (fresh (partly finite.empty))) (sym same_functions)
-      ∙ ap (λ (s : RunState). walk (loaded by_slots (functions_of m) (statements_of body) alone s) (fresh (partly finite.empty))) (sym state)
-      ∙ ap (λ (seen : Seen). walk (loaded by_slots (functions_of m) (statements_of body) alone (run_state m.state)) seen) (sym untold)
-
-  abbrev Loads : Result (Result Value Stop) Cut → Type 0
-  Loads r = RunsBy (loaded by_slots (functions_of m) (statements_of body)) m before r m' after
-
-  pub load_begins : (value : Value) → Loads (Ok (Ok value))
-      → program_beginning program settings fuel ≡ Some (record { state = run_state m'.state; alerts = after.alerts })
+  pub ends_whole_load : (end : Result Value Stop) → RunsBy part m before (Ok end) m' after → Comes_to (is_ok end)
   unfolding walk
-  load_begins value k = ap beginning_in (same_walk ∙ k alone)
+  ends_whole_load (Ok value) k = ap beginning_in (k alone)
+  ends_whole_load (Err stop) k = ap beginning_in (k alone)
 
-  pub load_gives_none : (r : Result (Result Value Stop) Cut) → GivesNone r → Loads r → program_beginning program settings fuel ≡ None
+  pub ends_cut_load : (e : Cut) → RunsBy part m before (Err e) m' after → IfSome (ends_cut e) Comes_to
   unfolding walk
-  load_gives_none (Ok (Ok value)) none k = absurd none
-  load_gives_none (Ok (Err stop)) none k = ap beginning_in (same_walk ∙ k alone)
-  load_gives_none (Err (cut.Missing name)) none k = ap beginning_in (same_walk ∙ k alone)
-  load_gives_none (Err (cut.Halt (halt.Throw thrown))) none k = ap beginning_in (same_walk ∙ k alone)
-  load_gives_none (Err (cut.Halt (halt.Fault code place))) none k = ap beginning_in (same_walk ∙ k alone)
-  load_gives_none (Err (cut.Halt (halt.LeftOut name place))) none k = ap beginning_in (same_walk ∙ k alone)
-  load_gives_none (Err (cut.Halt halt.Memory)) none k = absurd none
+  ends_cut_load (cut.Missing name) k = ap beginning_in (k alone)
+  ends_cut_load (cut.Halt (halt.Throw thrown)) k = ap beginning_in (k alone)
+  ends_cut_load (cut.Halt (halt.Fault code place)) k = ap beginning_in (k alone)
+  ends_cut_load (cut.Halt (halt.LeftOut name place)) k = ap beginning_in (k alone)
+  ends_cut_load (cut.Halt halt.Memory) k = tt
+
+-- what holds where a load is cut holds of what is said of it
+pub said : (o : Option Bool) (holds : Bool → Type 0) (r : Result Bool Memory) → IfOk r (λ ends. o ≡ Some ends) → IfSome o holds → IfOk r holds
+said o holds (Ok ends) e k = subst (λ (x : Option Bool). IfSome x holds) e k
+said o holds (Err memory) e k = tt
+
+-- nothing is said of the alerts of a load that comes to no end
+pub cut_tells_none : (e : Cut) (X : Type 0) → IfSome (ends_cut e) (λ ends. ends ≡ true → X)
+cut_tells_none (cut.Missing name) X = λ e. absurd (cc)
+cut_tells_none (cut.Halt (halt.Throw thrown)) X = λ e. absurd (cc)
+cut_tells_none (cut.Halt (halt.Fault code place)) X = λ e. absurd (cc)
+cut_tells_none (cut.Halt (halt.LeftOut name place)) X = λ e. absurd (cc)
+cut_tells_none (cut.Halt halt.Memory) X = tt
+
+-- the load that the definition speaks of is what a machine does from its beginning
+pub load_begins : (program : Program) (settings : PacSettings) (fuel : ℕ) (body : List Statement) (m : Machine) (before : Seen)
+    → body ≡ program.body → m.functions.now ≡ program.functions → run_state m.state ≡ fresh_state by_slots None settings fuel
+    → before ≡ fresh (partly finite.empty)
+    → program_beginning program settings fuel
+    ≡ beginning_in (walk (loaded by_slots (functions_of m) (statements_of body) alone (run_state m.state)) before)
+load_begins program settings fuel body m before same_body same_functions state untold =
+    ap beginning_in (
+    ap (λ (ss : List Statement). walk (loaded by_slots (map function_of program.functions) (statements_of ss) alone (fresh_state by_slots None settings fuel)) (fresh (partly finite.empty))) (sym same_body)
+    ∙ ap (λ (fs : List Function). walk (loaded by_slots (map function_of fs) (statements_of body) alone (fresh_state by_slots None settings fuel)) (fresh (partly finite.empty))) (sym same_functions)
+    ∙ ap (λ (s : RunState). walk (loaded by_slots (functions_of m) (statements_of body) alone s) (fresh (partly finite.empty))) (sym state)
+    ∙ ap (λ (seen : Seen). walk (loaded by_slots (functions_of m) (statements_of body) alone (run_state m.state)) seen) (sym untold))
 
 -- ---- telling the alerts of a load again
 

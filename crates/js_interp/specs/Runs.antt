@@ -12,7 +12,6 @@ use Rattle.js_evaluation.specs.State.{RunEnd, Faults, Stop, Does, AfterValue}
 use Rattle.js_evaluation.specs.Scoping.{by_slots}
 use Rattle.js_evaluation.specs.Evaluation as def
 use Rattle.js_evaluation.specs.Evaluation.{called_for, entry_in, ending_of}
-use Rattle.heap_steps.specs.declared.halt.Halt.{Halt}
 use Rattle.heap_steps.specs.declared.halt.Halt.TheVariants as halt
 use Rattle.heap_steps.specs.Works.{plain_fault, left_out}
 use Rattle.js_machine.specs.declared.machine.Machine.{Machine}

@@ -1,20 +1,23 @@
 // A script that is loaded once for many runs.
-ghost use Rattle.std.specs.Prelude.{◌≡◌, IfOk, IfSome, true};
+ghost use Rattle.std.specs.Prelude.{◌≡◌, [], IfOk, IfSome, Some, true};
 ghost use Rattle.std.specs.Option.{option_map};
 ghost use Rattle.js_tree.specs.Tree.{statements_of};
-ghost use Rattle.js_evaluation.specs.Evaluation.{fresh_state};
+ghost use Rattle.js_evaluation.specs.Evaluation as spec;
 ghost use Rattle.js_evaluation.specs.Scoping.{by_slots};
 ghost use Rattle.js_law_evaluation.specs.Laws.{at_moment};
-ghost use Rattle.js_machine.specs.Moves.{run_state};
-ghost use Rattle.js_interp.specs.ImageAnswers.{LoadsTo};
-ghost use Rattle.js_interp.specs.Loads.{program_beginning};
+ghost use Rattle.run_trees.specs.RunTree.{walk};
+ghost use Rattle.js_machine.specs.Moves.{functions_of, run_state};
+ghost use Rattle.js_interp.specs.ImageAnswers.{LoadsTo, ends_cut};
+ghost use Rattle.js_interp.specs.Loads.{alone, beginning_in, beginning_where, program_beginning};
 
 use crate::one_run::{begin, fresh};
 use answer_table::AnswerTable;
 use heap_steps::Halt;
-use js_machine::{Part, State};
+use js_host::Host;
+use js_machine::{Machine, Part, State};
 use js_runs::{Cut, run_on};
 use js_scope::Program;
+use js_tree::Statement;
 use pac_calendar::Moments;
 use pac_functions::PacSettings;
 use std::alloc::Global;
@@ -78,18 +81,52 @@ fn loaded(
     let mut alerts = TextList::new(alloc);
     let state = fresh(alloc, None, settings, fuel)?;
     let mut machine = begin(alloc, program.functions.as_slice(), state)?;
-    let load = Part::Load(program.body.as_slice());
-    match run_on(&mut machine, load, &mut host, &mut alerts) {
-        Ok(Ok(_)) => Ok(Some(Image {
-            settings,
-            fuel,
-            state: shared(alloc, machine.state)?,
-            alerts,
-        })),
-        Ok(Err(_)) => Ok(None),
-        Err(Cut::Missing(_)) => Ok(None),
-        Err(Cut::Halt(Halt::Memory)) => Err(Memory),
-        Err(Cut::Halt(_)) => Ok(None),
+    if !load_ends(
+        &mut machine,
+        program.body.as_slice(),
+        &mut host,
+        &mut alerts,
+    )? {
+        return Ok(None);
+    }
+    let state = shared(alloc, machine.state)?;
+    Ok(Some(Image {
+        settings,
+        fuel,
+        state,
+        alerts,
+    }))
+}
+
+/// Loads the script over this host. Whether it comes to its end, with no throw, no fault and no name that the host
+/// doesn't know.
+fn load_ends<'p, H: Host>(
+    machine: &mut Machine<'p>,
+    body: &'p [Statement],
+    host: &mut H,
+    alerts: &mut TextList,
+) -> Result<bool, Memory>
+    requires { machine.old.frames ≡ [] }
+    ensures ends { IfOk result (λ ends. beginning_in (walk (spec.loaded by_slots (functions_of machine.old) (statements_of body.entry.now) alone (run_state machine.old.state)) (H.seen host.old))
+        ≡ beginning_where ends (run_state machine.new.state) (H.seen host.new).alerts) }
+    ensures keeps { alerts.old ≡ (H.seen host.old).alerts → IfOk result (λ ends. ends ≡ true → alerts.new ≡ (H.seen host.new).alerts) }
+{
+    match run_on(machine, Part::Load(body), host, alerts) {
+        Ok(end) => Ok(end.is_ok()),
+        Err(cut) => cut_off(cut),
+    }
+}
+
+/// A load that is cut comes to no end. Where that was want of memory, it isn't known whether it does.
+fn cut_off(cut: Cut) -> Result<bool, Memory>
+    ensures { IfOk result (λ ends. ends_cut cut ≡ Some ends) }
+{
+    match cut {
+        Cut::Missing(_) => Ok(false),
+        Cut::Halt(Halt::Throw(_)) => Ok(false),
+        Cut::Halt(Halt::Fault { .. }) => Ok(false),
+        Cut::Halt(Halt::LeftOut { .. }) => Ok(false),
+        Cut::Halt(Halt::Memory) => Err(Memory),
     }
 }
 

@@ -1,5 +1,6 @@
 // A program that is ready for many runs.
-ghost use Rattle.std.specs.Prelude.{◌≡◌, ◌+◌, IfOk, ForSome};
+ghost use Rattle.std.specs.Prelude.{◌≡◌, ◌+◌, IfOk};
+ghost use Rattle.std.specs.Option.{ForSome};
 ghost use Rattle.js_tree.specs.Tree.{statements_of};
 ghost use Rattle.js_scope.specs.Functions as scoped;
 ghost use Rattle.js_host.specs.Answers.{Knowledge};
@@ -30,7 +31,7 @@ pub struct Prepared<'p> {
 impl<'p> Prepared<'p> {
     /// The program, which each run loads itself.
     pub fn plain(program: &'p Program) -> Prepared<'p>
-        ensures { result.program ≡ program }
+        ensures { result.program.now ≡ program.now }
     {
         Prepared {
             program,
@@ -45,7 +46,7 @@ impl<'p> Prepared<'p> {
         settings: &PacSettings,
         fuel: u64,
     ) -> Result<Prepared<'p>, Memory>
-        ensures { IfOk result (λ prepared. prepared.program ≡ program) }
+        ensures { IfOk result (λ prepared. prepared.program.now ≡ program.now) }
     {
         match load(alloc, program, settings, fuel) {
             LoadAnswer::Image(image) => Ok(Prepared {

@@ -13,7 +13,7 @@ pub(crate) fn prepared<'p>(
     program: &'p Program,
     entries: &[Entry],
 ) -> Result<Prepared<'p>, Memory>
-    ensures { IfOk result (λ prepared. prepared.program ≡ program) }
+    ensures { IfOk result (λ prepared. prepared.program.now ≡ program.now) }
 {
     match entries.first() {
         Some(first) => Prepared::new(alloc, program, &first.settings, first.fuel),
@@ -27,7 +27,7 @@ pub(crate) fn prepared_once<'p>(
     program: &'p Program,
     entries: &[Entry],
 ) -> Result<Prepared<'p>, Memory>
-    ensures { IfOk result (λ prepared. prepared.program ≡ program) }
+    ensures { IfOk result (λ prepared. prepared.program.now ≡ program.now) }
 {
     if entries.len() < 2 {
         return Ok(Prepared::plain(program));

@@ -3,7 +3,6 @@ use Rattle.js_tree.specs.declared.expression.Function.{Function}
 use Rattle.js_tree.specs.Tree.{statements_of}
 use Rattle.js_evaluation.specs.Scoping.{by_slots}
 use Rattle.js_evaluation.specs.Evaluation.{script_run}
-use Rattle.js_machine.specs.declared.machine.State.{State}
 use Rattle.js_machine.specs.Moves.{beside_of, functions_of, run_state}
 use Rattle.js_interp.specs.Answers.{entry_of}
 use Rattle.js_interp.proofs.Ends.{ends_whole, keeps_whole, run_begins}
@@ -19,8 +18,8 @@ returns-clause-ends g c =
     (run_begins c.args.program.now.body c.as_slice-2.result.now c.args.program.now.functions entry m before c.as_slice-2.ensures
     (ap (λ (b : Bor (List Function)). b.now) begun.functions_are ∙ c.as_slice.ensures)
     (ap run_state begun.state_is ∙ c.in_ok-state.ensures))
-    c.run_whole.new.machine (g.H.Host.seen c.run_whole.new.host) c.run_whole.result _ c.run_whole.ensures.runs c.ended.ensures
+    c.run_whole-end.new.machine (g.H.Host.seen c.run_whole-end.new.host) c.run_whole-end.result _ c.run_whole-end.ensures.runs c.ended.ensures
 
 pub returns-clause-keeps : goal.returns-clause-keeps
 returns-clause-keeps g c = λ same.
-    keeps_whole _ c.run_whole.result (beside_of c.run_whole.new.machine.state) _ _ _ c.ended.ensures (c.run_whole.ensures.keeps same)
+    keeps_whole _ c.run_whole-end.result (beside_of c.run_whole-end.new.machine.state) _ _ _ c.ended.ensures (c.run_whole-end.ensures.keeps same)
