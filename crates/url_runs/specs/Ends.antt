@@ -1,5 +1,5 @@
 -- How it ends with the URLs of a script that is run over a link, by the log.
-use Rattle.std.specs.Prelude.{◌≡◌, ℕ, List, Option, None, Result, Ok, Err, Vec, map}
+use Rattle.std.specs.Prelude.{◌≡◌, List, Option, None, Result, Ok, Err, Vec, map}
 use Rattle.std.specs.declared.alloc.Global.{Global}
 use Rattle.pac_ports.specs.declared.link.Move.{Move}
 use Rattle.batch_text.specs.Batch.{BatchEntry}

@@ -59,4 +59,4 @@ jobs_named run named M n e = first_named M (asked_in run M) n (all_named M run [
 
 pub named : (run : UrlRun) → jobs.AsksLookupNames (job_of (tree_of run))
 named run = jobs_named (tree_of run)
-    (runs-ask (statements_of run.program.now.body) (functions_of run.program.now.functions) (entry_of run.entry))
+    (runs-ask (statements_of run.program.now.program.now.body) (functions_of run.program.now.program.now.functions) (entry_of run.entry))
