@@ -51,5 +51,5 @@ unfolding GoesOn
 loads_at_each_moment ss functions settings fuel result s seen e m known after =
     goes_on after m known _ _ [] result s seen
     (((evaluation-ends by_slots-end functions MOST_OPEN).value (load_part outer_scope ss)).alike after m
-        (λ result t. Done (Comes result t)) after (λ result t hidden. refl) (fresh_state by_slots None settings fuel) refl)
+    (λ result t. Done (Comes result t)) after (λ result t hidden. refl) (fresh_state by_slots None settings fuel) refl)
     e

@@ -66,11 +66,11 @@ work-alike : (f : PacFunction) (vs : List Value) (place : Place) → GoesAlike (
 unfolding GoesOn
 work-alike f vs place last m one other rest s hidden =
     subst (λ (now : Option Moments). GoesOn last m
-        (followed_by (pac_call f vs now s.settings.my_ip) (λ end. pac_end place end one s))
-        (followed_by (pac_call f vs (Some m) s.settings.my_ip) (λ end. pac_end place end other (at_moment m s))))
+    (followed_by (pac_call f vs now s.settings.my_ip) (λ end. pac_end place end one s))
+    (followed_by (pac_call f vs (Some m) s.settings.my_ip) (λ end. pac_end place end other (at_moment m s))))
     (sym hidden)
     (call-alike last m (λ end. pac_end place end one s) (λ end. pac_end place end other (at_moment m s))
-        (λ end. (pac_end-ends place end).alike last m one other rest s hidden) (λ run. tt) f vs s.settings.my_ip)
+    (λ end. (pac_end-ends place end).alike last m one other rest s hidden) (λ run. tt) f vs s.settings.my_ip)
 
 pac_work-ends : (f : PacFunction) (vs : List Value) (place : Place) → Ends (pac_work f vs place)
 pac_work-ends f vs place =
