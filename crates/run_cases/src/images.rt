@@ -15,6 +15,7 @@ use std::alloc::Global;
 use std::marker::Brand;
 use std::sync::ledger::{Blank, Ledger};
 use step_counter::Steps;
+use utf16_text::Memory;
 
 /// Whether the load of a script gives an image, and how a run of the script ends. Runs from the image, at two moments
 /// and for two URLs in turn, come to what runs come to that load the script: how they end, with place and detail, what
@@ -48,15 +49,26 @@ fn kind_of_load<L: Ledger>(
     runs: &mut Steps<L>,
 ) -> Result<&'static str> {
     match load(alloc, program, &SETTINGS, fuel) {
-        LoadAnswer::Image(image) => {
-            same_from(alloc, program, &image, &entry_with(alloc, fuel)?, runs)?;
-            same_from(alloc, program, &image, &later_entry(alloc, fuel)?, runs)?;
-            same_from(alloc, program, &image, &entry_with(alloc, fuel)?, runs)?;
-            Ok("image")
-        }
+        LoadAnswer::Image(image) => runs_from(alloc, program, &image, fuel, runs),
         LoadAnswer::Plain => Ok("plain"),
         LoadAnswer::Memory => bail!("memory"),
     }
+}
+
+/// Three runs from an image: two for one URL, and one for another between them.
+fn runs_from<L: Ledger>(
+    alloc: Global,
+    program: &Program,
+    image: &Image,
+    fuel: u64,
+    runs: &mut Steps<L>,
+) -> Result<&'static str>
+    requires { IsImageOf program.now image.now }
+{
+    same_from(alloc, program, image, &entry_with(alloc, fuel)?, runs)?;
+    same_from(alloc, program, image, &later_entry(alloc, fuel)?, runs)?;
+    same_from(alloc, program, image, &entry_with(alloc, fuel)?, runs)?;
+    Ok("image")
 }
 
 /// A run from an image comes to what a run comes to that loads the script.
@@ -87,15 +99,28 @@ fn runs_prepared<L: Ledger>(
     fuel: u64,
     runs: &mut Steps<L>,
 ) -> Result<()> {
-    let prepared = Prepared::new(alloc, program, &SETTINGS, fuel).context("memory")?;
-    same_prepared(alloc, program, &prepared, &later_entry(alloc, fuel)?, runs)?;
+    match Prepared::new(alloc, program, &SETTINGS, fuel) {
+        Ok(prepared) => same_for_each(alloc, program, &prepared, fuel, runs),
+        Err(Memory) => bail!("memory"),
+    }
+}
+
+/// At another moment, with less fuel, and with other settings.
+fn same_for_each<L: Ledger>(
+    alloc: Global,
+    program: &Program,
+    prepared: &Prepared,
+    fuel: u64,
+    runs: &mut Steps<L>,
+) -> Result<()> {
+    same_prepared(alloc, program, prepared, &later_entry(alloc, fuel)?, runs)?;
     let less = entry_with(alloc, fuel.saturating_sub(1))?;
-    same_prepared(alloc, program, &prepared, &less, runs)?;
+    same_prepared(alloc, program, prepared, &less, runs)?;
     let elsewhere = Entry {
         settings: PacSettings { my_ip: 0x0A09_0807 },
         ..entry_with(alloc, fuel)?
     };
-    same_prepared(alloc, program, &prepared, &elsewhere, runs)
+    same_prepared(alloc, program, prepared, &elsewhere, runs)
 }
 
 fn same_prepared<L: Ledger>(

@@ -3,7 +3,7 @@ use crate::answers::tell_name;
 use answer_table::AnswerTable;
 use anyhow::{Context, Result, ensure};
 use case_rows::written_text;
-use js_host::{Host, Looked};
+use js_host::{Host, Looked, MOST_ALERTS, kept_units};
 use pac_names::{Answer, LookupName};
 use std::alloc::Global;
 use tracing_host::TracingHost;
@@ -60,12 +60,10 @@ impl<'t> Host for NotingHost<'t> {
     }
 
     fn alert(&mut self, alloc: Global, text: &Text) -> Result<(), Memory> {
-        let before = self.host.alerts().as_slice().len();
-        self.host.alert(alloc, text)?;
-        if let Some(kept) = self.host.alerts().as_slice().get(before) {
-            self.calls.push(Call::Alert(kept.copy(alloc)?))?;
+        if self.host.alerts().as_slice().len() < MOST_ALERTS {
+            self.calls.push(Call::Alert(kept_units(alloc, text)?))?;
         }
-        Ok(())
+        self.host.alert(alloc, text)
     }
 }
 
